@@ -1,0 +1,4 @@
+pub mod Bounds
+pub mod Parsing
+pub mod Frames
+pub mod Accepted

@@ -1,0 +1,7 @@
+pub mod Coherence
+pub mod Fetching
+pub mod Stepping
+pub mod Going
+pub mod Running
+pub mod Placing
+pub mod Setting

@@ -1,0 +1,4 @@
+pub mod Widths
+pub mod Whole
+pub mod Words
+pub mod Ranges

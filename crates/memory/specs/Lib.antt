@@ -1,0 +1,4 @@
+pub mod Bytes
+pub mod Pages
+pub mod Access
+pub mod Raised

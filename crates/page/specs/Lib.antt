@@ -1,0 +1,4 @@
+pub mod Report
+pub mod Build
+pub mod Print
+pub mod Printed

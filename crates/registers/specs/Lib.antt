@@ -1,0 +1,10 @@
+pub mod Access
+pub mod Finish
+pub mod Give
+pub mod Interrupts
+pub mod Protection
+pub mod Ranges
+pub mod Raised
+pub mod Status
+pub mod Trap
+pub mod Tried
