@@ -1,4 +1,6 @@
 // Examples that are run: single steps, images and their pages, refusals with their places, texts, and the parts by themselves and below a machine.
+#![tactic(auto)]
+
 #[cfg(test)]
 mod counting;
 #[cfg(test)]

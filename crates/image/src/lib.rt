@@ -1,4 +1,6 @@
 // The image format: a version byte, then records, each with its length, its kind and a body.
+#![tactic(auto)]
+
 ghost use Rattle.std.specs.Prelude.{◌≡◌};
 ghost use Rattle.image.specs.Faults.{raised, at_record};
 

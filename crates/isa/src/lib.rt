@@ -1,4 +1,6 @@
 // The instruction set: what an instruction word says, and the arithmetic of 32-bit numbers.
+#![tactic(auto)]
+
 pub mod arithmetic;
 pub mod decode;
 pub mod fields;

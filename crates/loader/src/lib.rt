@@ -1,4 +1,6 @@
 // Loading an image into a machine.
+#![tactic(auto)]
+
 ghost use Rattle.std.specs.Prelude.{◌≡◌, length};
 ghost use Rattle.image.specs.Records.{Spans};
 ghost use Rattle.machine.specs.Machine.{Did};

@@ -1,3 +1,5 @@
 // The machine over any memory, translation table and decode cache.
+#![tactic(auto)]
+
 pub mod machine;
 pub mod way;

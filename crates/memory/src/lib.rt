@@ -1,4 +1,6 @@
 // Memory as the machine sees it: whole pages of bytes, each with a read-only mark.
+#![tactic(auto)]
+
 mod bytes;
 pub mod joined;
 pub mod memory;

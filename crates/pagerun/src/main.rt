@@ -1,4 +1,6 @@
 // Reads an image from standard input, builds its page, and prints the page or the refusal.
+#![tactic(auto)]
+
 use page::print::print;
 use std::io::{Read, Write};
 

@@ -1,4 +1,6 @@
 // A quick list: 16 lines over any translation table, so that a page found before is found again at once.
+#![tactic(auto)]
+
 ghost use Rattle.std.specs.Prelude.{◌≡◌, replicate, None};
 ghost use Rattle.tlb.specs.Table.{found, key_of};
 ghost use Rattle.quick_list.specs.Lines.{line_at, Agreeing, Lined};

@@ -1,4 +1,6 @@
 // Why a call says no, and which layer of the emulator said it.
+#![tactic(auto)]
+
 ghost use Rattle.std.specs.Prelude.{◌≡◌};
 ghost use Rattle.refusal.specs.Numbers.{number_of};
 

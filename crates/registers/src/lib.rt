@@ -1,4 +1,6 @@
 // The register file, and what instructions, traps and interrupts do to it.
+#![tactic(auto)]
+
 pub mod access;
 pub mod finish;
 pub mod give;

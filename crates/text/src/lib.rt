@@ -1,4 +1,6 @@
 // The text of a report and of a notice, written into a buffer of the caller.
+#![tactic(auto)]
+
 ghost use Rattle.std.specs.Prelude.{◌≡◌, ◌<◌, ◌≤◌, length, IfOk, if◌then◌else◌, Ok, Err, nat_lt};
 ghost use Rattle.refusal.specs.declared.Refusal.TheVariants.{SmallBuffer};
 ghost use Rattle.text.specs.Report.{head_text, report_text, notice_text, over};

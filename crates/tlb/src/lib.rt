@@ -1,4 +1,6 @@
 // Translations of pages, and the table that holds them.
+#![tactic(auto)]
+
 pub mod info;
 pub mod page_type;
 pub mod size;

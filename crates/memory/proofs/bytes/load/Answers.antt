@@ -9,5 +9,5 @@ returns-in-1 c = search (rules, number_one)
 pub returns-in-2 : goal.returns-in-2
 returns-in-2 c = search (rules, number_two)
 
-pub returns-in-default : goal.returns-in-default
-returns-in-default c = let four : c.args.width ≡ 4 = grind (arith, nat_tests) in search (rules, number_four)
+pub returns-in_default : goal.returns-in_default
+returns-in_default c = let four : c.args.width ≡ 4 = grind (arith, nat_tests) in search (rules, number_four)

@@ -13,8 +13,8 @@ loop-i-preserved g c =
     let i = c.loop-i.i in
     let now = c.loop-i.buffer in
     let here : i < length now = omega arith in
-    below_more _ _ (λ k h. let ne : k ≢ i = omega arith in get_or-set_other now i k c.byte-at.result 0 ne ∙ c.loop-i.invariant k h)
-    (get_or-set_same now i c.byte-at.result 0 here ∙ c.byte-at.ensures)
+    below_more _ _ (λ k h. let ne : k ≢ i = omega arith in get_or-set_other now i k c.byte_at.result 0 ne ∙ c.loop-i.invariant k h)
+    (get_or-set_same now i c.byte_at.result 0 here ∙ c.byte_at.ensures)
 
 pub returns : goal.returns
 returns g c =

@@ -16,17 +16,17 @@ returns-in-Err c =
 pub returns-then-report-lt-LEAST : goal.returns-then-report-lt-LEAST
 returns-then-report-lt-LEAST c =
     builds_refused c.args.mode c.args.steps c.args.image.now c.args.memory.now c.args.report.now SmallBuffer _ c.refused-then-report-lt-LEAST.ensures
-    (built_small c.args.mode c.args.steps c.args.image.now c.args.memory.now c.args.report.now c.if-mode-gt-FAST.false c.in-default.ensures c.if-report-lt-LEAST.true)
+    (built_small c.args.mode c.args.steps c.args.image.now c.args.memory.now c.args.report.now c.if-mode-gt-FAST.false c.in_default.ensures c.if-report-lt-LEAST.true)
 
-pub returns-then-steps-gt-MOST-STEPS : goal.returns-then-steps-gt-MOST-STEPS
-returns-then-steps-gt-MOST-STEPS c =
-    builds_refused c.args.mode c.args.steps c.args.image.now c.args.memory.now c.args.report.now TooManySteps _ c.refused-then-steps-gt-MOST-STEPS.ensures
-    (built_long c.args.mode c.args.steps c.args.image.now c.args.memory.now c.args.report.now c.if-mode-gt-FAST.false c.in-default.ensures c.if-report-lt-LEAST.false c.if-steps-gt-MOST-STEPS.true)
+pub returns-then-steps-gt-MOST_STEPS : goal.returns-then-steps-gt-MOST_STEPS
+returns-then-steps-gt-MOST_STEPS c =
+    builds_refused c.args.mode c.args.steps c.args.image.now c.args.memory.now c.args.report.now TooManySteps _ c.refused-then-steps-gt-MOST_STEPS.ensures
+    (built_long c.args.mode c.args.steps c.args.image.now c.args.memory.now c.args.report.now c.if-mode-gt-FAST.false c.in_default.ensures c.if-report-lt-LEAST.false c.if-steps-gt-MOST_STEPS.true)
 
 pub returns-in-0 : goal.returns-in-0
 returns-in-0 c =
-    builds_driven c.args.mode c.args.steps c.args.image.now c.args.memory.now c.args.report.now c.if-mode-gt-FAST.false c.in-default.ensures c.if-report-lt-LEAST.false _ _ _ c.if-steps-gt-MOST-STEPS.false (omega arith) c.build-full.ensures
+    builds_driven c.args.mode c.args.steps c.args.image.now c.args.memory.now c.args.report.now c.if-mode-gt-FAST.false c.in_default.ensures c.if-report-lt-LEAST.false _ _ _ c.if-steps-gt-MOST_STEPS.false (omega arith) c.build_full.ensures
 
-pub returns-in-default-mode : goal.returns-in-default-mode
-returns-in-default-mode c =
-    builds_driven c.args.mode c.args.steps c.args.image.now c.args.memory.now c.args.report.now c.if-mode-gt-FAST.false c.in-default.ensures c.if-report-lt-LEAST.false _ _ _ c.if-steps-gt-MOST-STEPS.false (omega arith) c.build-fast.ensures
+pub returns-in_default-mode : goal.returns-in_default-mode
+returns-in_default-mode c =
+    builds_driven c.args.mode c.args.steps c.args.image.now c.args.memory.now c.args.report.now c.if-mode-gt-FAST.false c.in_default.ensures c.if-report-lt-LEAST.false _ _ _ c.if-steps-gt-MOST_STEPS.false (omega arith) c.build_fast.ensures

@@ -6,7 +6,7 @@ use Rattle.quick_list.proofs.QuickListTlb.remove.Goals as goal
 pub returns : goal.returns
 returns g c =
     let q = c.args.self.now in
-    let k = c.line-of.result in
+    let k = c.line_of.result in
     let long : length q.lines ≡ 16 = omega arith in
     let here : k < 16 = omega arith in
     let t = c.remove.ensures in
@@ -18,7 +18,7 @@ returns g c =
             table = t.sound s.table;
             lines =
                 subst (λ ts. Agree ts (set q.lines k None)) (sym (t.translations s.table))
-                (agree_removed _ _ long s.lines k here c.args.segment c.args.page (sym c.line-of.ensures) (g.T.Tlb.lawful q.table s.table).rising);
+                (agree_removed _ _ long s.lines k here c.args.segment c.args.page (sym c.line_of.ensures) (g.T.Tlb.lawful q.table s.table).rising);
           };
       roots = t.roots;
     }

@@ -5,8 +5,8 @@ use Rattle.text.proofs.lay.+put_decimal.Goals as goal
 pub put-requires : goal.put-requires
 put-requires t c = omega (arith, length_one c.args.number (omega arith))
 
-pub put-decimal-front-requires : goal.put-decimal-front-requires
-put-decimal-front-requires t c = (omega arith, omega (arith, length_more c.args.number (omega arith) (omega arith)))
+pub put_decimal-front-requires : goal.put_decimal-front-requires
+put_decimal-front-requires t c = (omega arith, omega (arith, length_more c.args.number (omega arith) (omega arith)))
 
 pub put-requires-else-number-lt10 : goal.put-requires-else-number-lt10
 put-requires-else-number-lt10 t c = omega (arith, length_more c.args.number (omega arith) (omega arith))

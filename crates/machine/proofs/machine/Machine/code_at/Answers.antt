@@ -17,19 +17,19 @@ returns-in-Some g c =
       retained = retained_found _ _ _ c.args.way m _ c.in-Some.decoded finds (λ _. held);
     }
 
-pub returns-in-default-read : goal.returns-in-default-read
-returns-in-default-read g c =
+pub returns-in_default-read : goal.returns-in_default-read
+returns-in_default-read g c =
     let m = c.args.self.now in
-    let fails = code_unread c.args.way (view g.M.Memory g.T.Tlb g.C.DecodeCache m) _ _ _ (sym c.in-default-read.ensures.value) c.offset.ensures c.failed_at.ensures in
+    let fails = code_unread c.args.way (view g.M.Memory g.T.Tlb g.C.DecodeCache m) _ _ _ (sym c.in_default-read.ensures.value) c.offset.ensures c.failed_at.ensures in
     record {
       learned = record { answer = λ _. fails; state = λ _. refl; sound = λ s. s; same = refl };
       retained = retained_failed _ _ _ c.args.way m _ _ (λ _. fails);
     }
 
-pub returns-in-default-decode : goal.returns-in-default-decode
-returns-in-default-decode g c =
+pub returns-in_default-decode : goal.returns-in_default-decode
+returns-in_default-decode g c =
     let m = c.args.self.now in
-    let fails = code_illegal c.args.way (view g.M.Memory g.T.Tlb g.C.DecodeCache m) _ _ (sym c.in-Ok.ensures.value) (sym c.in-default-decode.ensures) c.failed.ensures in
+    let fails = code_illegal c.args.way (view g.M.Memory g.T.Tlb g.C.DecodeCache m) _ _ (sym c.in-Ok.ensures.value) (sym c.in_default-decode.ensures) c.failed.ensures in
     record {
       learned = record { answer = λ _. fails; state = λ _. refl; sound = λ s. s; same = refl };
       retained = retained_failed _ _ _ c.args.way m _ _ (λ _. fails);

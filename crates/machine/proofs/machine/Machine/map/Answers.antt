@@ -8,29 +8,29 @@ use Rattle.machine.specs.Machine.{view, Sound}
 use Rattle.machine.proofs.Going.{same_state, did_registers}
 use Rattle.machine.proofs.Setting.{mapped_bad, mapped_bad_info, mapped_full, mapped_done}
 use Rattle.machine.proofs.machine.Machine.map.Goals as goal
-use Rattle.machine.proofs.machine.Machine.map.Goals.{then-segment-eq0-via-then-segment-eq0, then-segment-eq0-via-else-segment-eq0+then-page-gt-LAST-PAGE}
+use Rattle.machine.proofs.machine.Machine.map.Goals.{then-segment-eq0-via-then-segment-eq0, then-segment-eq0-via-else-segment-eq0+then-page-gt-LAST_PAGE}
 
 pub returns-then-segment-eq0 : goal.returns-then-segment-eq0
 returns-then-segment-eq0 g c =
     let bad : (eqb c.args.segment 0 || ltb 262143 c.args.page) ≡ true =
     elim c.then-segment-eq0.branch [
       | then-segment-eq0-via-then-segment-eq0 w ↦ or_left _ _ (eq-eqb _ _ w.if-segment-eq0.true)
-      | then-segment-eq0-via-else-segment-eq0+then-page-gt-LAST-PAGE w ↦ or_right _ _ (lt-ltb _ _ w.if-page-gt-LAST-PAGE.true)
+      | then-segment-eq0-via-else-segment-eq0+then-page-gt-LAST_PAGE w ↦ or_right _ _ (lt-ltb _ _ w.if-page-gt-LAST_PAGE.true)
     ] in
     did_registers _ _ _ _ _ _ _ (mapped_bad c.args.segment c.args.page c.args.info _ bad)
 
-pub returns-in-default : goal.returns-in-default
-returns-in-default g c =
-    let good = or_from _ _ (ne_eqb _ _ c.if-segment-eq0.false) (le-ltb _ _ c.if-page-gt-LAST-PAGE.false) in
-    did_registers _ _ _ _ _ _ _ (mapped_bad_info c.args.segment c.args.page c.args.info _ good c.in-default.ensures)
+pub returns-in_default : goal.returns-in_default
+returns-in_default g c =
+    let good = or_from _ _ (ne_eqb _ _ c.if-segment-eq0.false) (le-ltb _ _ c.if-page-gt-LAST_PAGE.false) in
+    did_registers _ _ _ _ _ _ _ (mapped_bad_info c.args.segment c.args.page c.args.info _ good c.in_default.ensures)
 
-pub returns-in-err-insert : goal.returns-in-err-insert
-returns-in-err-insert g c =
+pub returns-in_err-insert : goal.returns-in_err-insert
+returns-in_err-insert g c =
     let m = c.args.self.now in
     let v = view g.M.Memory g.T.Tlb g.C.DecodeCache m in
-    let good = or_from _ _ (ne_eqb _ _ c.if-segment-eq0.false) (le-ltb _ _ c.if-page-gt-LAST-PAGE.false) in
-    let f = c.in-err-insert.ensures in
-    let p = err_from_is_err_and c.from-residual.result c.from-residual.ensures.1 in
+    let good = or_from _ _ (ne_eqb _ _ c.if-segment-eq0.false) (le-ltb _ _ c.if-page-gt-LAST_PAGE.false) in
+    let f = c.in_err-insert.ensures in
+    let p = err_from_is_err_and c.from_residual.result c.from_residual.ensures.1 in
     let full = λ (s : Sound g.M.Memory g.T.Tlb g.C.DecodeCache m). mapped_full c.args.segment c.args.page c.args.info v good c.in-Some.info c.in-Some.ensures _ _ (f.answer s.table) p.2 in
     rw p.1 (record {
       answer = λ s. ap (λ (d : Done Answer). d.answer) (full s);
@@ -43,8 +43,8 @@ pub returns : goal.returns
 returns g c =
     let m = c.args.self.now in
     let v = view g.M.Memory g.T.Tlb g.C.DecodeCache m in
-    let good = or_from _ _ (ne_eqb _ _ c.if-segment-eq0.false) (le-ltb _ _ c.if-page-gt-LAST-PAGE.false) in
-    let f = c.in-ok-insert.ensures in
+    let good = or_from _ _ (ne_eqb _ _ c.if-segment-eq0.false) (le-ltb _ _ c.if-page-gt-LAST_PAGE.false) in
+    let f = c.in_ok-insert.ensures in
     let done = λ (s : Sound g.M.Memory g.T.Tlb g.C.DecodeCache m). mapped_done c.args.segment c.args.page c.args.info v good c.in-Some.info c.in-Some.ensures (f.answer s.table) in
     record {
       answer = λ s. ap (λ (d : Done Answer). d.answer) (done s);

@@ -16,7 +16,7 @@ returns-in-Ok g c =
     let f = c.args.fetched in
     let free : (f.user && privileged f.decoded.instruction) ≡ false =
     elim c.else-fetched.branch [ else-fetched-via-then-fetched+else-privileged w ↦ and_right _ _ (sym w.privileged.ensures ∙ w.if-privileged.false) | else-fetched-via-else-fetched w ↦ and_left _ _ w.if-fetched.false ] in
-    record { tried = tried_registers _ _ _ _ _ _ (performed_done _ f _ _ free c.set-level.ensures c.finish.ensures.after c.in-Ok.ensures.value); cache = refl }
+    record { tried = tried_registers _ _ _ _ _ _ (performed_done _ f _ _ free c.set_level.ensures c.finish.ensures.after c.in-Ok.ensures.value); cache = refl }
 
 pub returns-in-Err : goal.returns-in-Err
 returns-in-Err g c =
@@ -24,5 +24,5 @@ returns-in-Err g c =
     let free : (f.user && privileged f.decoded.instruction) ≡ false =
     elim c.else-fetched.branch [ else-fetched-via-then-fetched+else-privileged w ↦ and_right _ _ (sym w.privileged.ensures ∙ w.if-privileged.false) | else-fetched-via-else-fetched w ↦ and_left _ _ w.if-fetched.false ] in
     let said = c.in-Err.ensures.value in
-    let back = level_restored c.args.self.now.registers f _ _ _ _ _ c.set-level.ensures c.finish.ensures.after said c.user-before.ensures c.set-level-in-Err.ensures in
-    record { tried = tried_nothing _ _ _ _ _ _ _ back (performed_failed _ f _ _ _ free c.set-level.ensures said c.failed-in-Err.ensures); cache = refl }
+    let back = level_restored c.args.self.now.registers f _ _ _ _ _ c.set_level.ensures c.finish.ensures.after said c.user-before.ensures c.set_level-in-Err.ensures in
+    record { tried = tried_nothing _ _ _ _ _ _ _ back (performed_failed _ f _ _ _ free c.set_level.ensures said c.failed-in-Err.ensures); cache = refl }

@@ -6,8 +6,8 @@ use Rattle.machine.proofs.machine.Machine.run.Goals.{then-loop-left-test+else-no
 pub returns-then-halted : goal.returns-then-halted
 returns-then-halted g c = run_halted _ _ _ _ _ (sym c.halted.ensures ∙ c.if-halted.true)
 
-pub returns-then-n-gt-MOST-STEPS : goal.returns-then-n-gt-MOST-STEPS
-returns-then-n-gt-MOST-STEPS g c = run_too_long _ _ _ _ _ (sym c.halted.ensures ∙ c.if-halted.false) c.if-n-gt-MOST-STEPS.true
+pub returns-then-n-gt-MOST_STEPS : goal.returns-then-n-gt-MOST_STEPS
+returns-then-n-gt-MOST_STEPS g c = run_too_long _ _ _ _ _ (sym c.halted.ensures ∙ c.if-halted.false) c.if-n-gt-MOST_STEPS.true
 
 pub loop-left-init : goal.loop-left-init
 loop-left-init g c = record { within = omega arith; after = λ _. refl; count = λ _. omega arith; sound = λ s. s; same = refl }
@@ -21,4 +21,4 @@ returns g c =
     let on = sym c.halted.ensures ∙ c.if-halted.false in
     let over : (c.loop-left.left ≤ 0) ⊎ (c.loop-left.self.registers.halted ≡ true) =
     elim c.loop-left-test.branch [ then-loop-left-test+else-not-halted w ↦ inr (sym w.halted-in-loop-left.ensures ∙ w.if-not-halted.false) | else-loop-left-test w ↦ inl w.loop-left-test.false ] in
-    run_ends _ _ _ _ _ _ _ _ _ on c.if-n-gt-MOST-STEPS.false over c.loop-left.invariant c.set-steps.ensures c.halted-2.ensures
+    run_ends _ _ _ _ _ _ _ _ _ on c.if-n-gt-MOST_STEPS.false over c.loop-left.invariant c.set_steps.ensures c.halted-2.ensures

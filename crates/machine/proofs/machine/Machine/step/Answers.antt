@@ -11,4 +11,4 @@ returns-then-halted g c =
 pub returns : goal.returns
 returns g c =
     let turned = c.turn-trap.ensures in
-    record { did = step_goes _ _ _ _ _ _ _ (sym c.halted.ensures ∙ c.if-halted.false) turned.did c.set-steps.ensures; retained = turned.retained }
+    record { did = step_goes _ _ _ _ _ _ _ (sym c.halted.ensures ∙ c.if-halted.false) turned.did c.set_steps.ensures; retained = turned.retained }

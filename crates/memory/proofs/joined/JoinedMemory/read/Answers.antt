@@ -2,14 +2,14 @@ use Rattle.std.proofs.Common.{length, ◌∙◌}
 use Rattle.memory.proofs.Seams.{at_seam, seamless, apart_reading, reading_below, reading_above}
 use Rattle.memory.proofs.joined.JoinedMemory.read.Goals as goal
 
-pub returns-in-default : goal.returns-in-default
-returns-in-default g c =
+pub returns-in_default : goal.returns-in_default
+returns-in_default g c =
     let m = c.args.self.now in
     let ms = g.L.Memory.marks m.lower in
     let ns = g.U.Memory.marks m.upper in
     let bs = g.L.Memory.bytes m.lower in
     let cs = g.U.Memory.bytes m.upper in
-    record { value = apart_reading bs ms cs ns (seamless (length ms) (length ns) c.in-default.ensures) c.args.width c.args.address; small = tt }
+    record { value = apart_reading bs ms cs ns (seamless (length ms) (length ns) c.in_default.ensures) c.args.width c.args.address; small = tt }
 
 pub returns-then-address-split : goal.returns-then-address-split
 returns-then-address-split g c =

@@ -3,14 +3,14 @@ use Rattle.memory.specs.Joining.{joined_marks}
 use Rattle.memory.proofs.Seams.{at_seam, seamless, apart_writing, apart_written, writing_below, written_below, writing_above, written_above}
 use Rattle.memory.proofs.joined.JoinedMemory.write.Goals as goal
 
-pub returns-in-default : goal.returns-in-default
-returns-in-default g c =
+pub returns-in_default : goal.returns-in_default
+returns-in_default g c =
     let m = c.args.self.now in
     let ms = g.L.Memory.marks m.lower in
     let ns = g.U.Memory.marks m.upper in
     let bs = g.L.Memory.bytes m.lower in
     let cs = g.U.Memory.bytes m.upper in
-    let apart = seamless (length ms) (length ns) c.in-default.ensures in
+    let apart = seamless (length ms) (length ns) c.in_default.ensures in
     record {
       answer = apart_writing bs ms cs ns apart c.args.width c.args.address (joined_marks ms ns);
       after = apart_written bs ms cs ns apart c.args.width c.args.address (joined_marks ms ns) c.args.value;

@@ -9,7 +9,7 @@ returns-then-fits c =
     let ok = c.if-fits.ensures in
     record {
       answer = refuses bs _ usable c.args.width c.args.address ok;
-      after = refuses_all bs _ usable c.args.width c.args.address ok c.args.-value;
+      after = refuses_all bs _ usable c.args.width c.args.address ok c.args._value;
       same = refl;
       rooted = refl;
     }
@@ -21,7 +21,7 @@ returns-else-fits c =
     let no = c.if-fits.ensures in
     record {
       answer = writes_outside bs _ usable c.args.width c.args.address no _;
-      after = writes_nothing bs _ usable c.args.width c.args.address no _ c.args.-value;
+      after = writes_nothing bs _ usable c.args.width c.args.address no _ c.args._value;
       same = refl;
       rooted = refl;
     }

@@ -2,10 +2,10 @@ use Rattle.std.proofs.Common.{refl}
 use Rattle.tlb.proofs.Laws.{found_nowhere, found_here}
 use Rattle.tlb.proofs.slot_list.SlotListTlb.find.Goals as goal
 
-pub returns-in-default : goal.returns-in-default
-returns-in-default c =
+pub returns-in_default : goal.returns-in_default
+returns-in_default c =
     record {
-      answer = λ d. found_nowhere c.args.self.now.records.now d c.args.segment c.args.page c.in-default.ensures;
+      answer = λ d. found_nowhere c.args.self.now.records.now d c.args.segment c.args.page c.in_default.ensures;
       translations = λ d. refl;
       slots = refl;
       sound = λ d. d;

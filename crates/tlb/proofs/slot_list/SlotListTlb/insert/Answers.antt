@@ -20,7 +20,7 @@ pub returns-in-Some-vacant : goal.returns-in-Some-vacant
 returns-in-Some-vacant c =
     let rs = c.args.self.now.records.now in
     let t = c.args.translation in
-    let none = c.in-default.ensures in
+    let none = c.in_default.ensures in
     let i = c.in-Some-vacant.i in
     let f = c.in-Some-vacant.ensures in
     record {
@@ -35,7 +35,7 @@ pub returns-in-None : goal.returns-in-None
 returns-in-None c =
     let rs = c.args.self.now.records.now in
     let t = c.args.translation in
-    let none = c.in-default.ensures in
+    let none = c.in_default.ensures in
     let f = c.in-None.ensures in
     record {
       answer = λ d. full_answer rs d t none f;

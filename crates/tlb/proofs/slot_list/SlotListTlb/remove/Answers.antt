@@ -13,10 +13,10 @@ returns-in-Some c =
       roots = refl;
     }
 
-pub returns-in-default : goal.returns-in-default
-returns-in-default c =
+pub returns-in_default : goal.returns-in_default
+returns-in_default c =
     record {
-      translations = λ d. removed_nothing c.args.self.now.records.now d c.args.segment c.args.page c.in-default.ensures;
+      translations = λ d. removed_nothing c.args.self.now.records.now d c.args.segment c.args.page c.in_default.ensures;
       slots = refl;
       sound = λ d. d;
       roots = refl;
