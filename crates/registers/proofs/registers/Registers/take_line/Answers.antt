@@ -5,8 +5,8 @@ use Rattle.registers.proofs.Equal.{same_registers}
 use Rattle.registers.proofs.Lines.{line_below, line_within}
 use Rattle.registers.proofs.registers.Registers.take_line.Goals as goal
 
-pub overflow-sub-self : goal.overflow-sub-self
-overflow-sub-self c = line_within _ _ (search rules) c.if-open-gt0.true
+pub overflow_sub-self : goal.overflow_sub-self
+overflow_sub-self c = line_within _ _ (search rules) c.if-open-gt0.true
 
 pub returns-then-open-gt0 : goal.returns-then-open-gt0
 returns-then-open-gt0 c =
