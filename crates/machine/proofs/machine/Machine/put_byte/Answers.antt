@@ -10,5 +10,5 @@ returns g c =
     record {
       state = λ _. same_state _ _ refl w.after w.same refl refl;
       sound = λ s. record { table = s.table; lines = c.forget.ensures.sound s.lines; coherent = coherent_written _ _ _ _ _ _ _ _ s.coherent w.after (c.forget.ensures.held s.lines) };
-      same = λ i. (m.memory.name ∷ m.tlb.ghost_name ∷ m.cache.ghost_name ∷ []) ∷ w.rooted i ∷ g.T.Tlb.roots m.tlb.now ∷ [];
+      same = λ i. (m.memory.ghost_name ∷ m.tlb.ghost_name ∷ m.cache.ghost_name ∷ []) ∷ w.rooted i ∷ g.T.Tlb.roots m.tlb.now ∷ [];
     }
