@@ -14,17 +14,17 @@ fn within<M: Memory>(memory: &M, address: u64, count: u64) -> bool
 }
 
 // May so many bytes be put from `address` on?
-pub fn check_range<M: Memory>(memory: &M, address: u64, count: u64) -> Result<(), MemoryFault>
-    ensures { result ≡ range_answer (M.Memory.bytes memory.now) (M.Memory.marks memory.now) address count }
+pub fn check_range<M: Memory>(memory: &M, address: u64, length: u64) -> Result<(), MemoryFault>
+    ensures { result ≡ range_answer (M.Memory.bytes memory.now) (M.Memory.marks memory.now) address length }
 {
-    if !within(memory, address, count) {
+    if !within(memory, address, length) {
         return Err(MemoryFault::Outside);
     }
-    if count == 0 {
+    if length == 0 {
         return Ok(());
     }
     let first = address / PAGE_BYTES;
-    let last = (address + count - 1) / PAGE_BYTES;
+    let last = (address + length - 1) / PAGE_BYTES;
     for page in first..last + 1 {
         if memory.marked(page) {
             return Err(MemoryFault::ReadOnly);

@@ -103,8 +103,7 @@ fn build_fast(steps: u32, image: &[u8], memory: &mut [u8], report: &mut [u8]) ->
 }
 
 // Builds a page from an image over the caller's memory; answers the length of the report, or the refusal.
-#[unsafe(no_mangle)]
-pub extern "C" fn vcpu32_build(
+pub fn vcpu32_build(
     mode: u32,
     steps: u32,
     image: &[u8],
