@@ -9,7 +9,7 @@ use Rattle.image.specs.declared.Item.{Item}
 use Rattle.image.specs.declared.LoadRefused.{LoadRefused}
 use Rattle.image.specs.Faults.{raised, at_record}
 use Rattle.image.specs.Records.{record_at, byte_at}
-use Rattle.image.specs.Parsed.{Placed, is_end, ended, after, parsed_from, no_image, begun, then, parsed, says}
+use Rattle.image.specs.Parsed.{Placed, is_end, ended, after, parsed_from, no_image, then, parsed, says}
 use Rattle.image.specs.Format.{Content, framed, end_framed, image_of, WellFormed}
 use Rattle.image.proofs.Parsing.{parsed_step, after_record, after_end, says_cons, says_no_more}
 use Rattle.image.proofs.Frames.{Bytes, Contains, Frames, record_frames, record_read, end_read}

@@ -5,13 +5,13 @@ use Rattle.image.specs.declared.Item.{Item}
 use Rattle.image.specs.declared.LoadRefused.{LoadRefused}
 use Rattle.image.specs.Faults.{refused_at, at_record}
 use Rattle.image.specs.Records.{record_at}
-use Rattle.image.specs.Parsed.{Placed, is_end, cons_ok, ended, no_more, after, parsed_from, begun, then, parsed, says}
+use Rattle.image.specs.Parsed.{Placed, is_end, cons_ok, no_more, after, parsed_from, begun, then, parsed, says}
 use Rattle.image.proofs.Parsing.{parsed_step, after_record, after_end, item_inside, scan_starts}
 use Rattle.memory.specs.declared.memory.Memory
 use Rattle.tlb.specs.declared.table.Tlb
 use Rattle.decode_cache.specs.declared.cache.DecodeCache
 use Rattle.machine.specs.declared.machine.Machine.{Machine}
-use Rattle.machine.specs.State.{State, Done}
+use Rattle.machine.specs.State.{State}
 use Rattle.machine.specs.Calls.{Answer}
 use Rattle.machine.specs.Machine.{view, Sound, lent, Did}
 use Rattle.loader.specs.Load.{Loaded, applied, apply_next, apply_all, load_parsed, load}

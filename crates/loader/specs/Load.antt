@@ -1,6 +1,5 @@
 -- Loading: the whole image is read first, and then its records are applied one after another, up to the first that is refused.
 use Rattle.std.specs.Prelude.{ℕ, ◌-◌, List, [], ◌∷◌, take, drop, Ok, Err, Result}
-use Rattle.refusal.specs.declared.Refused.{Refused}
 use Rattle.image.specs.declared.LoadRefused.{LoadRefused}
 use Rattle.image.specs.declared.Record.{Record}
 use Rattle.image.specs.declared.Record.TheVariants.{Place, Map, Give, End}

@@ -1,18 +1,16 @@
 -- What a fetch finds, in memory or in the decode cache.
-use Rattle.std.proofs.Common.{◌≡◌, ℕ, ◌/◌, true, false, not, Some, None, Ok, Err, Option, Result, sym, refl, ap, ◌∙◌}
+use Rattle.std.proofs.Common.{◌≡◌, ℕ, ◌/◌, true, false, not, None, Ok, Err, Option, Result, sym, ap, ◌∙◌}
 use Rattle.std.proofs.lemmas.Bool.{and_from, and_left, and_right, ne_eqb, eq-eqb, cond-true, cond-false}
 use Rattle.tlb.specs.declared.info.Info.{Info}
 use Rattle.tlb.specs.Table.{found}
 use Rattle.memory.specs.declared.memory.MemoryFault.{MemoryFault}
 use Rattle.memory.specs.Access.{reading}
-use Rattle.isa.specs.declared.instruction.Instruction.{Instruction}
 use Rattle.isa.specs.Decode.{decoded}
 use Rattle.decode_cache.specs.declared.cache.Decoded.{Decoded}
 use Rattle.registers.specs.declared.registers.Registers.{Registers}
 use Rattle.registers.specs.declared.trap.Trap.TheVariants.{Memory, Illegal}
 use Rattle.registers.specs.declared.trap.Cause.{Cause}
 use Rattle.machine.specs.declared.way.Way.{Way}
-use Rattle.machine.specs.declared.way.Fetched.{Fetched}
 use Rattle.machine.specs.State.{State}
 use Rattle.machine.specs.Coherence.{Read}
 use Rattle.machine.specs.Reach.{failed, failed_at, by_read, by_decoding, code_of, through, straight, translates_code, way_of, by_way, at_way, fetched}

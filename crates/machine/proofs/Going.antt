@@ -1,5 +1,5 @@
 -- What the parts of a machine's methods come to together, over any memory, table and cache.
-use Rattle.std.proofs.Common.{◌≡◌, ℕ, Bool, Some, None, Ok, Err, Option, Result, sym, refl, ap, ◌∙◌}
+use Rattle.std.proofs.Common.{◌≡◌, ℕ, Some, None, Ok, Err, Result, sym, refl, ap, ◌∙◌}
 use Rattle.memory.specs.declared.memory.Memory
 use Rattle.tlb.specs.declared.table.Tlb
 use Rattle.decode_cache.specs.declared.cache.DecodeCache
@@ -15,7 +15,7 @@ use Rattle.machine.specs.declared.way.Fetched.{Fetched}
 use Rattle.machine.specs.State.{State, Done, with_registers}
 use Rattle.machine.specs.Reach.{way_of, code_of, fetched}
 use Rattle.machine.specs.Step.{by_fetch, performed, attempted, turned}
-use Rattle.machine.specs.Machine.{view, Sound, lent, Did, Went, Tried, Learned}
+use Rattle.machine.specs.Machine.{view, Sound, Did, Tried, Learned}
 use Rattle.machine.proofs.Fetching.{fetch_barred, fetch_failed, fetch_done}
 use Rattle.registers.specs.Tried.{ends, says}
 use Rattle.registers.proofs.Tried.{tried_done, tried_failed}

@@ -1,5 +1,5 @@
 -- Bytes placed one by one.
-use Rattle.std.proofs.Common.{◌≡◌, ℕ, zero, suc, ◌+◌, ◌<◌, ◌≤◌, Bool, List, [], ◌∷◌, length, get_or, take, set, Ok, Err, Result, sym, refl, ap, ◌∙◌, le_of_suc-le-suc, not-suc-le-zero, add-zero, arith, take_all}
+use Rattle.std.proofs.Common.{◌≡◌, ℕ, zero, suc, ◌+◌, ◌<◌, ◌≤◌, Bool, List, [], ◌∷◌, length, get_or, take, set, Ok, Err, sym, refl, ap, ◌∙◌, le_of_suc-le-suc, not-suc-le-zero, add-zero, arith, take_all}
 use Rattle.std.proofs.lemmas.List.{length-set}
 use Rattle.refusal.specs.declared.Refused.{Refused}
 use Rattle.memory.specs.declared.memory.Memory
@@ -11,8 +11,8 @@ use Rattle.memory.proofs.Ranges.{range_writable}
 use Rattle.tlb.specs.declared.table.Tlb
 use Rattle.decode_cache.specs.declared.cache.DecodeCache
 use Rattle.machine.specs.declared.machine.Machine.{Machine}
-use Rattle.machine.specs.State.{State, Done, with_bytes}
-use Rattle.machine.specs.Calls.{Answer, refuses, accepts, overlaid, put_byte, place, place_by}
+use Rattle.machine.specs.State.{Done, with_bytes}
+use Rattle.machine.specs.Calls.{Answer, refuses, overlaid, put_byte, place, place_by}
 use Rattle.machine.specs.Machine.{view, Sound, lent, Did, Went}
 use Rattle.machine.proofs.Going.{did_registers}
 

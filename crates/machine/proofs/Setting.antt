@@ -1,5 +1,5 @@
 -- Registers given and translations mapped from outside.
-use Rattle.std.proofs.Common.{◌≡◌, ℕ, ◌<◌, ◌≤◌, Bool, true, false, cond, ◌||◌, eqb, ltb, List, [], ◌∷◌, Some, None, Ok, Err, Result, sym, refl, ap, ◌∙◌, arith}
+use Rattle.std.proofs.Common.{◌≡◌, ℕ, true, false, ◌||◌, eqb, ltb, Some, None, Ok, Err, sym, ap, ◌∙◌}
 use Rattle.std.proofs.lemmas.Bool.{cond-true, cond-false}
 use Rattle.refusal.specs.declared.Refused.{Refused}
 use Rattle.refusal.specs.declared.Refusal.TheVariants.{BadTranslation}
@@ -20,9 +20,9 @@ use Rattle.registers.specs.Tried.{ends, says}
 use Rattle.registers.proofs.Tried.{tried_done, tried_failed}
 use Rattle.registers.specs.Raised.{raised as register_raised}
 use Rattle.machine.specs.declared.machine.Machine.{Machine}
-use Rattle.machine.specs.State.{State, Done, with_registers, with_translations}
-use Rattle.machine.specs.Calls.{Answer, refuses, accepts, give, give_by, map, map_by, map_info}
-use Rattle.machine.specs.Machine.{view, Sound, lent, Did}
+use Rattle.machine.specs.State.{State, with_registers, with_translations}
+use Rattle.machine.specs.Calls.{refuses, accepts, give, give_by, map, map_by, map_info}
+use Rattle.machine.specs.Machine.{view, Did}
 use Rattle.machine.proofs.Going.{holding, did_registers}
 
 module _ {M T C : Type 0} (mem : Memory.Ghosts M) (tlb : Tlb.Ghosts T) (cache : DecodeCache.Ghosts C) where

@@ -1,5 +1,5 @@
 -- The work of an instruction, and how a step ends, in the state alone.
-use Rattle.std.proofs.Common.{◌≡◌, ℕ, Bool, true, false, ◌&&◌, Some, None, Ok, Err, Result, sym, refl, ap, ◌∙◌}
+use Rattle.std.proofs.Common.{◌≡◌, ℕ, Bool, true, false, ◌&&◌, Some, None, Ok, Err, Result, sym, ap, ◌∙◌}
 use Rattle.registers.specs.declared.registers.Registers.{Registers}
 use Rattle.registers.specs.declared.trap.Trap.{Trap}
 use Rattle.registers.specs.declared.trap.Trap.TheVariants.{Interrupt, Privileged}
@@ -11,7 +11,7 @@ use Rattle.registers.proofs.Tried.{tried_done, tried_failed, tried_stays}
 use Rattle.registers.specs.Interrupts.{open_line, line_cleared, interrupt}
 use Rattle.registers.specs.Trap.{trap_number, trapped}
 use Rattle.machine.specs.declared.way.Fetched.{Fetched}
-use Rattle.machine.specs.State.{State, Done, with_registers}
+use Rattle.machine.specs.State.{State, with_registers}
 use Rattle.machine.specs.Reach.{refuse, failed}
 use Rattle.machine.specs.Step.{by_finish, performed, settled, by_line, attempted, turned}
 

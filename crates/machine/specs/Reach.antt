@@ -1,12 +1,11 @@
 -- How the current instruction is reached: a chain of checks, of which the first to fail traps.
-use Rattle.std.specs.Prelude.{ℕ, ◌+◌, ◌*◌, ◌/◌, ◌%◌, Bool, true, false, cond, not, ◌&&◌, ◌||◌, List, Some, None, Ok, Err, Option, Result, ◌==◌}
+use Rattle.std.specs.Prelude.{ℕ, ◌+◌, ◌*◌, ◌/◌, ◌%◌, Bool, true, false, cond, not, ◌&&◌, ◌||◌, Some, None, Ok, Err, Option, Result, ◌==◌}
 use Rattle.memory.specs.declared.memory.MemoryFault.{MemoryFault}
 use Rattle.memory.specs.Access.{reading}
 use Rattle.isa.specs.declared.instruction.Instruction.{Instruction}
 use Rattle.isa.specs.Decode.{decoded}
 use Rattle.decode_cache.specs.declared.cache.Decoded.{Decoded}
 use Rattle.tlb.specs.declared.info.Info.{Info}
-use Rattle.tlb.specs.declared.translation.Translation.{Translation}
 use Rattle.tlb.specs.declared.page_type.PageType.{PageType}
 use Rattle.tlb.specs.declared.page_type.PageType.TheVariants.{ReadOnly, ReadWrite, Execute, Gateway}
 use Rattle.tlb.specs.Info.{checked, kind, pl1, pl2, physical}

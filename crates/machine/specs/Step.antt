@@ -1,6 +1,5 @@
 -- A step: an interrupt, or an instruction that is fetched and does its work, or a trap.
-use Rattle.std.specs.Prelude.{◌≡◌, ℕ, zero, suc, ◌+◌, Bool, true, false, cond, ◌&&◌, Some, None, Ok, Err, Option, Result}
-use Rattle.isa.specs.declared.instruction.Instruction.{Instruction}
+use Rattle.std.specs.Prelude.{◌≡◌, ℕ, zero, suc, ◌+◌, false, cond, ◌&&◌, Some, None, Ok, Err, Option, Result}
 use Rattle.decode_cache.specs.declared.cache.Decoded.{Decoded}
 use Rattle.registers.specs.declared.registers.Registers.{Registers}
 use Rattle.registers.specs.declared.trap.Trap.{Trap}

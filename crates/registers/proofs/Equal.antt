@@ -1,5 +1,5 @@
 -- Registers are equal where their values are: a range is a fact, and has one proof at most.
-use Rattle.std.proofs.Common.{◌≡◌, ℕ, ◌%◌, Bool, List, get_or, refl, ap, ◌∙◌, subst}
+use Rattle.std.proofs.Common.{◌≡◌, ℕ, ◌%◌, Bool, List, get_or, ap, ◌∙◌, subst}
 use base.Stored.{Coded-set, coded_ℕ}
 use Rattle.registers.specs.declared.registers.Registers.{Registers}
 use Rattle.registers.specs.declared.status.Status.{Status}

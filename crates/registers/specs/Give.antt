@@ -1,5 +1,5 @@
 -- Registers by class and number, as they are named from outside.
-use Rattle.std.specs.Prelude.{ℕ, ◌/◌, ◌%◌, ◌^◌, Bool, true, cond, Some, None, Ok, Err, Option, Result, ◌==◌, nat_lt}
+use Rattle.std.specs.Prelude.{ℕ, ◌%◌, ◌^◌, Bool, true, cond, Some, None, Ok, Err, Option, Result, ◌==◌, nat_lt}
 use Rattle.registers.specs.declared.registers.Registers.{Registers}
 use Rattle.registers.specs.declared.give.Register.{Register}
 use Rattle.registers.specs.declared.give.Register.TheVariants.{General, Space, Control, Segment, Offset, StatusWord, Pending}

@@ -1,5 +1,5 @@
 -- Interrupts. Line n is bit n, counted from the left.
-use Rattle.std.specs.Prelude.{ℕ, ◌-◌, ◌/◌, ◌^◌, Bool, cond, ◌&&◌, Some, None, Option, bit_and, nat_lt, slice_index}
+use Rattle.std.specs.Prelude.{ℕ, ◌-◌, ◌/◌, ◌^◌, cond, ◌&&◌, Some, None, Option, bit_and, nat_lt, slice_index}
 use Rattle.std.specs.Int.Count.{count_leading_zeros}
 use Rattle.registers.specs.declared.registers.Registers.{Registers}
 use Rattle.registers.specs.declared.trap.Cause.{Cause}

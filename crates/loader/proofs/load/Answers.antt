@@ -1,7 +1,6 @@
-use Rattle.std.proofs.Common.{◌≡◌, sym, ap, ◌∙◌}
 use Rattle.std.proofs.lemmas.Result.{err_from_is_err_and}
 use Rattle.image.proofs.Parsing.{not_end}
-use Rattle.loader.proofs.Loading.{load_refused, load_starts, load_unbroken, load_ends, load_goes, load_stops}
+use Rattle.loader.proofs.Loading.{load_refused, load_starts, load_goes}
 use Rattle.loader.proofs.load.Goals as goal
 
 pub returns-in_err-scan : goal.returns-in_err-scan

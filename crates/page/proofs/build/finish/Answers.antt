@@ -1,4 +1,4 @@
-use Rattle.std.proofs.Common.{◌≡◌, ℕ, length, ap, ◌∙◌, arith}
+use Rattle.std.proofs.Common.{length, ap, ◌∙◌, arith}
 use Rattle.machine.specs.State.{State}
 use Rattle.page.specs.Report.{report_answer, report_buffer}
 use Rattle.page.specs.Build.{length_or_refusal}

@@ -1,4 +1,4 @@
-use Rattle.std.proofs.Common.{◌≡◌, Result, refl, ap, ◌∙◌, arith}
+use Rattle.std.proofs.Common.{Result, ap, ◌∙◌, arith}
 use Rattle.image.specs.declared.LoadRefused.{LoadRefused}
 use Rattle.machine.specs.State.{State}
 use Rattle.machine.specs.Machine.{view, Sound}

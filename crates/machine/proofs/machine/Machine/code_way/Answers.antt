@@ -1,4 +1,4 @@
-use Rattle.std.proofs.Common.{◌≡◌, ℕ, ◌/◌, [], ◌∷◌, sym, refl, ap, ◌∙◌}
+use Rattle.std.proofs.Common.{ℕ, ◌/◌, [], ◌∷◌, sym, refl, ap, ◌∙◌}
 use Rattle.tlb.specs.Table as Table
 use Rattle.registers.specs.declared.status.Status.{Status}
 use Rattle.machine.proofs.Fetching.{way_through, way_straight, segment_zero, code_off}

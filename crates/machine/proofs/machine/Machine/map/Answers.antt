@@ -1,8 +1,8 @@
-use Rattle.std.proofs.Common.{◌≡◌, true, false, ◌||◌, eqb, ltb, [], ◌∷◌, sym, refl, ap, ◌∙◌}
+use Rattle.std.proofs.Common.{◌≡◌, true, ◌||◌, eqb, ltb, [], ◌∷◌, refl, ap, ◌∙◌}
 use Rattle.std.proofs.lemmas.Bool.{or_left, or_right, or_from, eq-eqb, ne_eqb, lt-ltb, le-ltb}
 use Rattle.std.proofs.lemmas.Result.{err_from_is_err_and}
 use Rattle.tlb.proofs.Laws.{refused_unchanged}
-use Rattle.machine.specs.State.{State, Done}
+use Rattle.machine.specs.State.{Done}
 use Rattle.machine.specs.Calls.{Answer}
 use Rattle.machine.specs.Machine.{view, Sound}
 use Rattle.machine.proofs.Going.{same_state, did_registers}

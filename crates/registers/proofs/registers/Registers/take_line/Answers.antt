@@ -1,8 +1,8 @@
-use Rattle.std.proofs.Common.{◌≡◌, ◌<◌, true, ◌&&◌, ltb, Some, sym, refl, ap, ◌∙◌, rules}
+use Rattle.std.proofs.Common.{◌≡◌, true, ◌&&◌, ltb, sym, refl, ap, ◌∙◌, rules}
 use Rattle.std.proofs.lemmas.Bool.{cond-true, and_from, lt-ltb}
-use Rattle.registers.specs.Interrupts.{open_lines, open_line, by_line}
+use Rattle.registers.specs.Interrupts.{open_lines, by_line}
 use Rattle.registers.proofs.Equal.{same_registers}
-use Rattle.registers.proofs.Lines.{line_below, line_within}
+use Rattle.registers.proofs.Lines.{line_within}
 use Rattle.registers.proofs.registers.Registers.take_line.Goals as goal
 
 pub overflow_sub-self : goal.overflow_sub-self
