@@ -1,6 +1,6 @@
 -- An image is accepted exactly when it is made up as the format has it.
 use Rattle.std.proofs.Common.{◌≡◌, ℕ, zero, suc, ◌+◌, ◌≤◌, Bool, true, false, cond, not, ◌||◌, eqb, ltb, List, [], ◌∷◌, ◌++◌, length, drop, is_ok, IfOk, Ok, Err, Decides, Result, sym, refl, ap, ◌∙◌, subst, append_assoc, arith}
-use Rattle.std.specs.List.{flat_map, AllByRecursion as All}
+use Rattle.std.specs.List.{flat_map, AllByRecursion}
 use Rattle.std.proofs.lemmas.List.{drop_all, drop_more}
 use Rattle.std.proofs.lemmas.Bool.{false≢true, or_parts, or_from, eqb-true, eqb-false, eq-eqb, ne_eqb, ltb-false, le-ltb, not-false}
 use Rattle.refusal.specs.declared.Refused.{Refused}
@@ -17,7 +17,7 @@ use Rattle.image.proofs.Frames.{Bytes, Contains, Frames, record_frames, record_r
 -- the bytes from a place on are records and the end
 pub record Forms (image : List ℕ) (p : ℕ) : Type 0 where
   pub contents : List (List ℕ)
-  pub each : All Content contents
+  pub each : AllByRecursion Content contents
   pub rest : drop p image ≡ flat_map framed contents ++ end_framed
 
 refused_never : {T : Type 0} {E : Type 0} (e : E) (x : T) → ◌≡◌ {A = Result T E} (Err e) (Ok x) → ⊥
@@ -67,7 +67,7 @@ accepted_forms zero image k p bytes is = absurd (refused_never _ _ is)
 accepted_forms (suc fuel) image k p bytes is = forms_after (parsed_from fuel image) image k p (record_at image p) (record_frames image p bytes) (λ q. accepted_forms fuel image (k + 1) q bytes) is
 
 -- what is made up of records is accepted
-forms_accepted : (contents : List (List ℕ)) (image : List ℕ) (k p : ℕ) → All Content contents → drop p image ≡ flat_map framed contents ++ end_framed → says (parsed_from (length image) image k p) ≡ Ok tt
+forms_accepted : (contents : List (List ℕ)) (image : List ℕ) (k p : ℕ) → AllByRecursion Content contents → drop p image ≡ flat_map framed contents ++ end_framed → says (parsed_from (length image) image k p) ≡ Ok tt
 forms_accepted [] image k p each stands =
     let read = end_read image p stands in
     let item = read.item in

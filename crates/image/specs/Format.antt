@@ -1,6 +1,6 @@
 -- The format of an image: what stands in it, one after another.
 use Rattle.std.specs.Prelude.{◌≡◌, ℕ, ◌/◌, ◌%◌, ◌<◌, ◌≤◌, Bool, true, ◌&&◌, ◌||◌, List, [], ◌∷◌, ◌++◌, length, ◌==◌, nat_le, slice_index}
-use Rattle.std.specs.List.{flat_map, AllByRecursion as All}
+use Rattle.std.specs.List.{flat_map, AllByRecursion}
 
 -- a kind that asks something of the machine, and the length of kind and body that it has
 abbrev pub kind_allows : ℕ → ℕ → Bool
@@ -26,6 +26,6 @@ image_of contents = 1 ∷ (flat_map framed contents ++ end_framed)
 -- an image that is not too long and is made up of records
 pub record WellFormed (image : List ℕ) : Type 0 where
   pub contents : List (List ℕ)
-  pub each : All Content contents
+  pub each : AllByRecursion Content contents
   pub whole : image ≡ image_of contents
   pub most : length image ≤ 1048576

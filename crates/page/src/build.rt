@@ -3,7 +3,7 @@ ghost use Rattle.std.specs.Prelude.{◌≡◌};
 ghost use Rattle.page.specs.Build.{refusal_number, ran_and_reported, driven, built};
 ghost use Rattle.page.specs.Printed.{Printed, Drove, DroveBytes, Builds, Short};
 
-use super::report::report as write;
+use super::report::report as report_into;
 use decode_cache::cache::DecodeCache;
 use decode_cache::empty::EmptyCache;
 use decode_cache::lines::LineCache;
@@ -44,7 +44,7 @@ fn finish<M: Memory, T: Tlb, C: DecodeCache>(
     ensures { Printed M.Memory T.Tlb C.DecodeCache (ran_and_reported steps) machine.old report.old result machine.new report.new }
 {
     let _ = machine.run(steps);
-    match write(machine, report) {
+    match report_into(machine, report) {
         Ok(length) => length,
         Err(fault) => refused(fault.refusal, 0),
     }
