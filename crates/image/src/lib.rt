@@ -74,10 +74,10 @@ impl From<ImageFault> for Refused {
 }
 
 // Adds the record's number and place to a refusal.
-pub fn located(res: Result<(), Refused>, record: u32, place: u32) -> Result<(), LoadRefused>
-    ensures { result ≡ at_record «record» place res }
+pub fn located(answer: Result<(), Refused>, record: u32, place: u32) -> Result<(), LoadRefused>
+    ensures { result ≡ at_record «record» place answer }
 {
-    match res {
+    match answer {
         Ok(()) => Ok(()),
         Err(refused) => Err(LoadRefused {
             refused,

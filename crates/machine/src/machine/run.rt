@@ -1,7 +1,7 @@
 // Steps and runs, as they are called from outside.
 ghost use Rattle.std.specs.Prelude.{◌≡◌};
 ghost use Rattle.machine.specs.Machine.{Did, Retained};
-ghost use Rattle.machine.specs.Calls.{step as step_of_lem, run as run_of};
+ghost use Rattle.machine.specs.Calls.{step as step_of, run as run_of};
 ghost use Rattle.machine.specs.Step.{Fetches};
 
 use crate::machine::Machine;
@@ -22,7 +22,7 @@ pub struct Ran {
 impl<'m, M: Memory, T: Tlb, C: DecodeCache> Machine<'m, M, T, C> {
     // One step; answers the number of the trap that it took, or 0.
     pub fn step(&mut self) -> Result<u32, Refused>
-        ensures did { Did M.Memory T.Tlb C.DecodeCache step_of_lem self.old result self.new }
+        ensures did { Did M.Memory T.Tlb C.DecodeCache step_of self.old result self.new }
         ensures retained { Retained M.Memory T.Tlb C.DecodeCache Fetches self.old self.new.cache.now }
     {
         if self.registers.halted() {
