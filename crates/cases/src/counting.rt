@@ -11,6 +11,7 @@ use std::cell::Cell;
 use std::process::Abort;
 use std::test::Fail;
 use tlb::info::Info;
+use tlb::page::Page;
 use tlb::slot_list::SlotList;
 use tlb::table::{TableFault, Tlb};
 use tlb::translation::Translation;
@@ -67,17 +68,17 @@ impl<'a, T: Tlb> Tlb for CountingTable<'a, T> {
 
     ghost lawful = { λ t s. T.Tlb.lawful t.table s };
 
-    fn find(&mut self, segment: u16, page: u32) -> Option<Info> {
+    fn find(&mut self, page: Page) -> Option<Info> {
         self.finds.set(self.finds.get().wrapping_add(1));
-        self.table.find(segment, page)
+        self.table.find(page)
     }
 
     fn insert(&mut self, translation: Translation) -> Result<(), TableFault> {
         self.table.insert(translation)
     }
 
-    fn remove(&mut self, segment: u16, page: u32) {
-        self.table.remove(segment, page);
+    fn remove(&mut self, page: Page) {
+        self.table.remove(page);
     }
 
     fn clear(&mut self) {
@@ -100,47 +101,25 @@ fn looped<M: Memory, T: Tlb, C: DecodeCache>(
 }
 
 // How often the memory and the table below are asked in those steps.
-#[derive(Clone, Copy)]
+#[derive(Clone, Copy, PartialEq, Eq, Debug, Drop)]
 struct Asked {
     reads: u32,
     finds: u32,
 }
 
-fn asked_with_lines(rt: &(impl Abort + AllocGlobal)) -> Result<Asked, Fail> {
-    let reads = Cell::new(0);
-    let finds = Cell::new(0);
+// The steps over a memory and a table that count, and over whatever lines there are on the table and for instructions.
+fn count_asked<T: Tlb + Drop, C: DecodeCache + Drop>(
+    rt: &(impl Abort + AllocGlobal),
+    reads: &Cell<u32>,
+    finds: &Cell<u32>,
+    mut table: T,
+    mut cache: C,
+) -> Result<Asked, Fail> {
     let mut bytes = vec![in rt.alloc(); 0u8; 16_384]?;
     let mut memory = CountingMemory {
         memory: Ram::new(bytes.as_mut_slice()),
-        reads: &reads,
+        reads,
     };
-    let mut records = [None; 1];
-    let mut table = QuickList::new(CountingTable {
-        table: SlotList::new(&mut records),
-        finds: &finds,
-    });
-    let mut cache = LineCache::new();
-    assert_eq!(rt; looped(&mut memory, &mut table, &mut cache)?, 100);
-    Ok(Asked {
-        reads: reads.get(),
-        finds: finds.get(),
-    })
-}
-
-fn asked_without_lines(rt: &(impl Abort + AllocGlobal)) -> Result<Asked, Fail> {
-    let reads = Cell::new(0);
-    let finds = Cell::new(0);
-    let mut bytes = vec![in rt.alloc(); 0u8; 16_384]?;
-    let mut memory = CountingMemory {
-        memory: Ram::new(bytes.as_mut_slice()),
-        reads: &reads,
-    };
-    let mut records = [None; 1];
-    let mut table = CountingTable {
-        table: SlotList::new(&mut records),
-        finds: &finds,
-    };
-    let mut cache = EmptyCache;
     assert_eq!(rt; looped(&mut memory, &mut table, &mut cache)?, 100);
     Ok(Asked {
         reads: reads.get(),
@@ -151,7 +130,14 @@ fn asked_without_lines(rt: &(impl Abort + AllocGlobal)) -> Result<Asked, Fail> {
 // Each of the two words is read once, and the quick list has had the page since it was mapped.
 #[test]
 fn lines_spare_finds_and_reads(rt: HostRuntime) -> Result<(), Fail> {
-    let asked = asked_with_lines(&rt)?;
+    let reads = Cell::new(0);
+    let finds = Cell::new(0);
+    let mut records = [None; 1];
+    let table = QuickList::new(CountingTable {
+        table: SlotList::new(&mut records),
+        finds: &finds,
+    });
+    let asked = count_asked(&rt, &reads, &finds, table, LineCache::new())?;
     assert_eq!(rt; asked.reads, 2);
     assert_eq!(rt; asked.finds, 0);
     Ok(())
@@ -159,7 +145,14 @@ fn lines_spare_finds_and_reads(rt: HostRuntime) -> Result<(), Fail> {
 
 #[test]
 fn without_lines_every_fetch_finds_and_reads(rt: HostRuntime) -> Result<(), Fail> {
-    let asked = asked_without_lines(&rt)?;
+    let reads = Cell::new(0);
+    let finds = Cell::new(0);
+    let mut records = [None; 1];
+    let table = CountingTable {
+        table: SlotList::new(&mut records),
+        finds: &finds,
+    };
+    let asked = count_asked(&rt, &reads, &finds, table, EmptyCache)?;
     assert_eq!(rt; asked.reads, 100);
     assert_eq!(rt; asked.finds, 100);
     Ok(())

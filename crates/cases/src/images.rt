@@ -38,43 +38,29 @@ fn load_over(memory: &mut [u8], image: &[u8]) -> Result<(), LoadRefused> {
     loaded(&mut ram, &mut table, &mut cache, image)
 }
 
-// A load was refused with that number, at that record and place, by that layer.
-fn refused(
-    rt: &impl Abort,
-    answer: Result<(), LoadRefused>,
-    number: u32,
-    record: u32,
-    place: u32,
-    layer: Layer,
-) -> Result<(), Fail> {
-    let Err(fault) = answer else {
-        return Err(Fail::new("the image was accepted"));
-    };
-    assert_eq!(rt; fault.refused.refusal.number(), number);
-    assert_eq!(rt; fault.record, record);
-    assert_eq!(rt; fault.place, place);
-    assert_eq!(rt; fault.refused.layer, layer);
-    Ok(())
+// A refusal's number, the number and the place of its record, and its layer.
+#[derive(Clone, Copy, PartialEq, Eq, Debug, Drop)]
+struct Told(u32, u32, u32, Layer);
+
+fn as_told(fault: LoadRefused) -> Told {
+    let refused = fault.refused;
+    Told(
+        refused.refusal.number(),
+        fault.spot.record,
+        fault.spot.place,
+        refused.layer,
+    )
+}
+
+fn refused(rt: &impl Abort, answer: Result<(), LoadRefused>, fault: Told) {
+    assert_eq!(rt; answer.map_err(as_told), Err(fault));
 }
 
 // The image is refused over one page of RAM.
-fn refuses(
-    rt: &(impl Abort + AllocGlobal),
-    image: &[u8],
-    number: u32,
-    record: u32,
-    place: u32,
-    layer: Layer,
-) -> Result<(), Fail> {
+fn refuses(rt: &(impl Abort + AllocGlobal), image: &[u8], told: Told) -> Result<(), Fail> {
     let mut memory = vec![in rt.alloc(); 0u8; 16_384]?;
-    refused(
-        rt,
-        load_over(memory.as_mut_slice(), image),
-        number,
-        record,
-        place,
-        layer,
-    )
+    refused(rt, load_over(memory.as_mut_slice(), image), told);
+    Ok(())
 }
 
 #[test]
@@ -97,49 +83,40 @@ fn the_example_prints_its_page_in_both_modes(rt: HostRuntime) -> Result<(), Fail
 
 #[test]
 fn what_is_no_image_is_refused_at_its_start(rt: HostRuntime) -> Result<(), Fail> {
-    refuses(&rt, &[], 13, 0, 0, Layer::Image)?;
-    refuses(&rt, &[2, 0, 1, 4], 13, 0, 0, Layer::Image)
+    refuses(&rt, &[], Told(13, 0, 0, Layer::Image))?;
+    refuses(&rt, &[2, 0, 1, 4], Told(13, 0, 0, Layer::Image))
 }
 
 #[test]
 fn a_record_that_is_cut_off_is_refused(rt: HostRuntime) -> Result<(), Fail> {
-    refuses(&rt, &[1, 0], 14, 0, 1, Layer::Image)?;
-    refuses(&rt, &[1, 0, 0, 4], 14, 0, 1, Layer::Image)?;
+    refuses(&rt, &[1, 0], Told(14, 0, 1, Layer::Image))?;
+    refuses(&rt, &[1, 0, 0, 4], Told(14, 0, 1, Layer::Image))?;
     refuses(
         &rt,
         &[1, 0, 7, 3, 0, 2, 0, 0, 0, 5, 0, 11, 2, 0],
-        14,
-        1,
-        10,
-        Layer::Image,
+        Told(14, 1, 10, Layer::Image),
     )
 }
 
 #[test]
 fn a_record_of_no_known_form_is_refused(rt: HostRuntime) -> Result<(), Fail> {
-    refuses(&rt, &[1, 0, 1, 5], 15, 0, 1, Layer::Image)?;
-    refuses(&rt, &[1, 0, 4, 1, 0, 0, 0], 15, 0, 1, Layer::Image)?;
+    refuses(&rt, &[1, 0, 1, 5], Told(15, 0, 1, Layer::Image))?;
+    refuses(&rt, &[1, 0, 4, 1, 0, 0, 0], Told(15, 0, 1, Layer::Image))?;
     refuses(
         &rt,
         &[1, 0, 7, 3, 0, 2, 0, 0, 0, 5, 0, 2, 4, 0],
-        15,
-        1,
-        10,
-        Layer::Image,
+        Told(15, 1, 10, Layer::Image),
     )
 }
 
 #[test]
 fn an_image_without_its_end_is_refused_behind_the_last_record(rt: HostRuntime) -> Result<(), Fail> {
-    refuses(&rt, &[1], 16, 0, 1, Layer::Image)?;
-    refuses(&rt, &[1, 0, 1, 4, 9], 16, 1, 4, Layer::Image)?;
+    refuses(&rt, &[1], Told(16, 0, 1, Layer::Image))?;
+    refuses(&rt, &[1, 0, 1, 4, 9], Told(16, 1, 4, Layer::Image))?;
     refuses(
         &rt,
         &[1, 0, 7, 3, 0, 2, 0, 0, 0, 5],
-        16,
-        1,
-        10,
-        Layer::Image,
+        Told(16, 1, 10, Layer::Image),
     )
 }
 
@@ -148,34 +125,22 @@ fn a_record_is_refused_by_the_layer_that_cannot_do_it(rt: HostRuntime) -> Result
     refuses(
         &rt,
         &[1, 0, 6, 1, 0, 0, 0x40, 0, 9, 0, 1, 4],
-        9,
-        0,
-        1,
-        Layer::Memory,
+        Told(9, 0, 1, Layer::Memory),
     )?;
     refuses(
         &rt,
         &[1, 0, 7, 3, 9, 0, 0, 0, 0, 5, 0, 1, 4],
-        6,
-        0,
-        1,
-        Layer::Machine,
+        Told(6, 0, 1, Layer::Machine),
     )?;
     refuses(
         &rt,
         &[1, 0, 7, 3, 3, 2, 0, 0, 0x80, 0, 0, 1, 4],
-        7,
-        0,
-        1,
-        Layer::Machine,
+        Told(7, 0, 1, Layer::Machine),
     )?;
     refuses(
         &rt,
         &[1, 0, 11, 2, 0, 0, 0, 0, 0, 0, 0, 0, 0, 0, 0, 1, 4],
-        11,
-        0,
-        1,
-        Layer::Machine,
+        Told(11, 0, 1, Layer::Machine),
     )
 }
 
@@ -190,7 +155,8 @@ fn a_record_that_places_into_rom_is_refused(rt: HostRuntime) -> Result<(), Fail>
     image.give(0, 2, 5)?;
     image.place(0, &[0])?;
     let answer = loaded(&mut rom, &mut table, &mut cache, image.end()?);
-    refused(&rt, answer, 10, 1, 10, Layer::Memory)
+    refused(&rt, answer, Told(10, 1, 10, Layer::Memory));
+    Ok(())
 }
 
 #[test]

@@ -17,8 +17,8 @@ const PAGE: usize = 16_384;
 // A memory has these marks, and no more pages.
 fn marks<M: Memory>(rt: &impl Abort, memory: &M, all: &[bool]) {
     assert_eq!(rt; memory.pages(), all.len() as u64);
-    for page in 0..all.len() {
-        assert_eq!(rt; memory.marked(page as u64), all[page]);
+    for (page, mark) in all.iter().enumerate() {
+        assert_eq!(rt; memory.marked(page as u64), *mark);
     }
     assert_eq!(rt; memory.marked(all.len() as u64), false);
 }
@@ -158,7 +158,7 @@ fn placed<M: Memory, T: Tlb, C: DecodeCache>(
     let accepted = machine.place(address, bytes).is_ok();
     let mut seen = [7; 8];
     let looked = machine.look(address, &mut seen).is_ok();
-    (accepted, if looked { Some(seen) } else { None })
+    (accepted, looked.then_some(seen))
 }
 
 // Over a page of ROM, one of RAM and one of ROM, filled with 1, 2 and 3.

@@ -2,6 +2,7 @@
 use quick_list::QuickList;
 use std::process::Abort;
 use tlb::info::Info;
+use tlb::page::Page;
 use tlb::slot_list::SlotList;
 use tlb::table::Tlb;
 use tlb::translation::Translation;
@@ -12,24 +13,20 @@ struct Entry(u16, u32, Option<u32>);
 
 // Whether a translation to a physical page found room.
 fn enters<T: Tlb>(table: &mut T, segment: u16, page: u32, physical: u32) -> bool {
-    let Some(info) = Info::parse(physical) else {
-        return false;
+    let page = Page {
+        segment,
+        number: page,
     };
-    table
-        .insert(Translation {
-            segment,
-            page,
-            info,
-        })
-        .is_ok()
+    Info::parse(physical).is_some_and(|info| table.insert(Translation { page, info }).is_ok())
 }
 
 fn finds<T: Tlb>(rt: &impl Abort, table: &mut T, all: &[Entry]) {
     for entry in all {
-        let physical = match table.find(entry.0, entry.1) {
-            Some(info) => Some(info.physical()),
-            None => None,
+        let page = Page {
+            segment: entry.0,
+            number: entry.1,
         };
+        let physical = table.find(page).map(|info| info.physical());
         assert_eq!(rt; physical, entry.2);
     }
 }
@@ -68,7 +65,10 @@ fn lines_follow_the_table(rt: HostRuntime) {
     );
     assert!(rt; enters(&mut table, 1, 0, 43));
     finds(&rt, &mut table, &[Entry(1, 0, Some(43))]);
-    table.remove(1, 0);
+    table.remove(Page {
+        segment: 1,
+        number: 0,
+    });
     finds(&rt, &mut table, &[Entry(1, 0, None), Entry(1, 1, Some(41))]);
     table.clear();
     finds(&rt, &mut table, &[Entry(1, 1, None)]);

@@ -1,21 +1,24 @@
 -- What a cache of 64 lines holds: an address is looked for in its own line alone.
-use Rattle.std.specs.Prelude.{ℕ, ◌/◌, ◌%◌, cond, List, Some, None, Option, ◌==◌, slice_index_or}
-use Rattle.decode_cache.specs.declared.lines.Line.{Line}
+use Rattle.std.specs.Prelude.{◌≡◌, ℕ, ◌/◌, ◌↔◌, Bool, true, ◌==◌}
+use Rattle.std.specs.Cmp.Rules.{comparing}
+use Rattle.std.proofs.Common.{rules}
+use Rattle.decode_cache.specs.declared.cache.Decoded.{Decoded}
+use Rattle.decode_cache.specs.declared.lines.Address.{Address}
 use Rattle.decode_cache.specs.Held.{Held}
+use Rattle.line_table.specs.declared.Lines.{Lines}
+use Rattle.line_table.specs.Lines.{held}
 
--- the line of a word
-abbrev pub line_of : ℕ → ℕ
-line_of a = a / 4 % 64
+-- addresses are compared whole
+abbrev pub same : Address → Address → Bool
+same a b = a.0 == b.0
 
--- what a line has for an address, which is compared whole
-abbrev pub in_line : Option Line → Held
-in_line None a = None
-in_line (Some l) a = cond (l.address == a) (Some l.decoded) None
+-- the same addresses are one
+pub whole : (a b : Address) → (same a b ≡ true) ↔ (a ≡ b)
+whole a b = search (comparing, rules)
 
-abbrev pub in_lines : List (Option Line) → Held
-in_lines ls a = in_line (slice_index_or ls (line_of a) None) a
+-- the word that an address is of
+abbrev pub word_of : Address → ℕ
+word_of a = a.0 / 4
 
--- a line without the address
-abbrev pub emptied : Option Line → ℕ → Option Line
-emptied None a = None
-emptied (Some l) a = cond (l.address == a) None (Some l)
+abbrev pub in_lines : Lines Address Decoded 64 → Held
+in_lines ls a = held same word_of 64 ls (record { 0 = a })

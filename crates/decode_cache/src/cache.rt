@@ -5,14 +5,15 @@ ghost use Rattle.decode_cache.specs.Held.{Held, Fewer, SameBut, with_one, withou
 use isa::instruction::Instruction;
 
 // An instruction with the word that it was decoded from.
-#[derive(Clone, Copy, Drop)]
+#[derive(Clone, Copy, PartialEq, Eq, Debug, Drop)]
 pub struct Decoded {
     pub word: u32,
     pub instruction: Instruction,
 }
 
 pub trait DecodeCache {
-    // Whether its parts agree with one another: `clear` makes it so from any value, and every call keeps it.
+    // Whether its parts agree with one another: `clear` makes it so from any value, and every call keeps it. It is a premise of
+    // promises and no invariant, so that a cache can be made over anything.
     ghost sound: { Self → Type 0 };
 
     // What it holds for the word at a physical address.

@@ -1,51 +1,38 @@
-// The cache of 64 lines, a plain table that is changed one line at a time.
+// The cache of 64 lines: words that follow each other stand in lines that do.
 ghost use Rattle.std.specs.Prelude.{◌≡◌, true, replicate, Some, None};
-ghost use Rattle.decode_cache.specs.Held.{Fewer, SameBut, LosesOne, with_one};
-ghost use Rattle.decode_cache.specs.Lines.{line_of, in_lines, emptied};
+ghost use Rattle.decode_cache.specs.Held.{Fewer, SameBut, LosesOne, with_one, without_one};
+ghost use Rattle.decode_cache.specs.Lines.{word_of, whole, in_lines};
 
 use super::cache::{DecodeCache, Decoded};
+use line_table::Lines;
+use line_table::key::Key;
 
-#[derive(Clone, Copy)]
-struct Line {
-    address: u64,
-    decoded: Decoded,
-}
+// The physical address of a word.
+#[derive(Clone, Copy, PartialEq, Eq, Debug)]
+struct Address(u64);
 
-// Which line the word at an address may stand in: words that follow each other stand in lines that do.
-fn line_of(address: u64) -> usize
-    ensures { result ≡ line_of address }
-{
-    (address / 4 % 64) as usize
-}
+impl Key for Address {
+    ghost fold = { word_of };
 
-// A line, lent to be set.
-fn fill(line: &mut Option<Line>, address: u64, decoded: Decoded)
-    ensures { line.new ≡ Some (record { address = address; decoded = decoded }) }
-{
-    *line = Some(Line { address, decoded });
-}
-
-// A line, lent to be cleared if it is the address's.
-fn empty(line: &mut Option<Line>, address: u64)
-    ensures { line.new ≡ emptied line.old address }
-{
-    if let Some(held) = line {
-        if held.address == address {
-            *line = None;
-        }
+    fn fold(self) -> usize {
+        (self.0 / 4) as usize
     }
+
+    ghost whole = { whole };
 }
 
 #[derive(Drop)]
 pub struct LineCache {
-    lines: [Option<Line>; 64],
+    lines: Lines<Address, Decoded, 64>,
 }
 
 impl LineCache {
     pub fn new() -> LineCache
         ensures { result.lines ≡ replicate 64 None }
     {
-        LineCache { lines: [None; 64] }
+        LineCache {
+            lines: Lines::new(),
+        }
     }
 }
 
@@ -57,11 +44,7 @@ impl DecodeCache for LineCache {
     ghost retains = { true };
 
     fn recall(&self, address: u64) -> Option<Decoded> {
-        let line = self.lines[line_of(address)];
-        match line {
-            Some(held) if held.address == address => Some(held.decoded),
-            _ => None,
-        }
+        self.lines.find(Address(address))
     }
 
     // What is kept is always held, and at most one other word is lost for it.
@@ -70,18 +53,19 @@ impl DecodeCache for LineCache {
         ensures retained { in_lines self.new.lines address ≡ Some decoded }
         ensures held { Fewer (in_lines self.new.lines) (with_one (in_lines self.old.lines) address decoded) }
     {
-        fill(&mut self.lines[line_of(address)], address, decoded);
+        self.lines.put(Address(address), decoded);
     }
 
     // The word is gone, and no other is lost.
     fn forget(&mut self, address: u64)
         ensures gone { in_lines self.new.lines address ≡ None }
         ensures others { SameBut address (in_lines self.new.lines) (in_lines self.old.lines) }
+        ensures held { Fewer (in_lines self.new.lines) (without_one (in_lines self.old.lines) address) }
     {
-        empty(&mut self.lines[line_of(address)], address);
+        self.lines.remove(Address(address));
     }
 
     fn clear(&mut self) {
-        self.lines = [None; 64];
+        self.lines.clear();
     }
 }

@@ -1,4 +1,3 @@
-pub mod Bounds
-pub mod Parsing
+pub mod Reading
 pub mod Frames
 pub mod Accepted

@@ -2,53 +2,42 @@
 #![tactic(auto)]
 
 ghost use Rattle.std.specs.Prelude.{◌≡◌};
-ghost use Rattle.image.specs.Faults.{raised, at_record};
+ghost use Rattle.image.specs.Faults.{raised};
 
-mod read;
+pub mod read;
+mod records;
 mod whole;
 
-pub use read::record_at;
+pub use records::Records;
 use refusal::{Layer, Refusal, Refused};
 pub use whole::scan;
 
-// What a record asks of the machine; the bytes of a place record stand from `first` up to `last`.
-#[derive(Clone, Copy, Drop)]
-pub enum Record {
-    Place {
-        address: u32,
-        first: usize,
-        last: usize,
-    },
-    Map {
-        segment: u16,
-        page: u32,
-        info: u32,
-    },
-    Give {
-        class: u32,
-        number: u32,
-        value: u32,
-    },
+// What a record asks of the machine; the bytes of a place record are lent from the image.
+#[derive(Clone, Copy, PartialEq, Eq, Debug)]
+pub enum Record<'a> {
+    Place { address: u32, bytes: &'a [u8] },
+    Map { segment: u16, page: u32, info: u32 },
+    Give { class: u32, number: u32, value: u32 },
+    // Never given by a walk, but a record of the format.
     End,
 }
 
-// A record, and the place behind it.
-#[derive(Clone, Copy, Drop)]
-pub struct Item {
-    pub record: Record,
-    pub next: usize,
-}
-
-// A refusal, with the number of the record and the place where that begins or would begin.
-#[derive(Clone, Copy, Drop)]
-pub struct LoadRefused {
-    pub refused: Refused,
+// The number of a record, and the place where it begins or would begin.
+#[derive(Clone, Copy, PartialEq, Eq, Debug)]
+pub struct Spot {
     pub record: u32,
     pub place: u32,
 }
 
+// A refusal, with the number and the place of the record that it is of.
+#[derive(Clone, Copy, PartialEq, Eq, Debug)]
+pub struct LoadRefused {
+    pub refused: Refused,
+    pub spot: Spot,
+}
+
 // What is wrong with an image.
-#[derive(Clone, Copy, Drop)]
+#[derive(Clone, Copy, PartialEq, Eq, Debug)]
 pub enum ImageFault {
     NoImage,
     Cut,
@@ -56,6 +45,7 @@ pub enum ImageFault {
     NoEnd,
 }
 
+// The layer is told here, where the fault arises.
 impl From<ImageFault> for Refused {
     ghost from_gives = { λ f r. r ≡ raised f };
 
@@ -70,19 +60,5 @@ impl From<ImageFault> for Refused {
             refusal,
             layer: Layer::Image,
         }
-    }
-}
-
-// Adds the record's number and place to a refusal.
-pub fn located(answer: Result<(), Refused>, record: u32, place: u32) -> Result<(), LoadRefused>
-    ensures { result ≡ at_record «record» place answer }
-{
-    match answer {
-        Ok(()) => Ok(()),
-        Err(refused) => Err(LoadRefused {
-            refused,
-            record,
-            place,
-        }),
     }
 }

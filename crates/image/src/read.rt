@@ -1,82 +1,48 @@
-// The record at a place of an image.
-ghost use Rattle.std.specs.Prelude.{◌≡◌, ◌+◌, ◌<◌, ◌≤◌, length, IfOk};
-ghost use Rattle.image.specs.Records.{byte_at, half_at, word_at, of_kind, read_at, record_at, Inside};
+// The record that some bytes begin with.
+ghost use Rattle.std.specs.Prelude.{◌≡◌, ◌+◌, ◌≤◌, length, IfOk};
+ghost use Rattle.std.specs.Result.{result_map_both};
+ghost use Rattle.image.specs.Records.{asked, item, of_content, read};
 
-use crate::{ImageFault, Item, Record};
-use refusal::Refused;
+use crate::{ImageFault, Record};
 
-// The record that begins at a place, with the place behind it.
-pub fn record_at(image: &[u8], place: usize) -> Result<Item, Refused>
-    ensures answer { result ≡ record_at image.now place }
-    ensures inside { IfOk result (λ item. Inside image.now place item) }
+// A record, and the bytes behind it. Its length comes first, and has to be there whole, with as many bytes behind it.
+#[tactic(auto, using(crate::proofs::Reading::read_long))]
+pub fn read(bytes: &[u8]) -> Result<(Record<'_>, &[u8]), ImageFault>
+    ensures answer { result_map_both item (λ fault. fault) result ≡ read bytes.now }
+    ensures shorter { IfOk result (λ item. length item.1.now + 3 ≤ length bytes.now) }
 {
-    Ok(read(image, place)?)
-}
-
-// A record's length comes first, and has to be there whole, with as many bytes behind it.
-fn read(image: &[u8], place: usize) -> Result<Item, ImageFault>
-    ensures { result ≡ read_at image.now place }
-{
-    if image.len() <= place {
-        return Err(ImageFault::NoEnd);
-    }
-    if image.len() - place < 2 {
-        return Err(ImageFault::Cut);
-    }
-    let size = half(image, place) as usize;
-    let start = place + 2;
-    if size == 0 || image.len() - start < size {
-        return Err(ImageFault::Cut);
-    }
-    let record = body(image, start, size)?;
-    Ok(Item {
-        record,
-        next: start + size,
-    })
+    let (size, rest) = match bytes {
+        [] => return Err(ImageFault::NoEnd),
+        [_] => return Err(ImageFault::Cut),
+        [high, low, rest @ ..] => (u16::from_be_bytes([*high, *low]), rest),
+    };
+    let (content, rest) = rest
+        .split_at_checked(usize::from(size))
+        .ok_or(ImageFault::Cut)?;
+    Ok((record(content)?, rest))
 }
 
 // The kind says how long a record is, and what its body holds.
-fn body(image: &[u8], start: usize, size: usize) -> Result<Record, ImageFault>
-    requires some { 0 < size }
-    requires inside { start + size ≤ length image.now }
-    ensures { result ≡ of_kind image.now start size (byte_at image.now start) }
+fn record(content: &[u8]) -> Result<Record<'_>, ImageFault>
+    ensures { result_map_both asked (λ fault. fault) result ≡ of_content content.now }
 {
-    match image[start] {
-        1 if size >= 5 => Ok(Record::Place {
-            address: word(image, start + 1),
-            first: start + 5,
-            last: start + size,
+    match content {
+        [] => Err(ImageFault::Cut),
+        [1, a, b, c, d, bytes @ ..] => Ok(Record::Place {
+            address: u32::from_be_bytes([*a, *b, *c, *d]),
+            bytes,
         }),
-        2 if size == 11 => Ok(Record::Map {
-            segment: half(image, start + 1),
-            page: word(image, start + 3),
-            info: word(image, start + 7),
+        [2, s, t, a, b, c, d, i, j, k, l] => Ok(Record::Map {
+            segment: u16::from_be_bytes([*s, *t]),
+            page: u32::from_be_bytes([*a, *b, *c, *d]),
+            info: u32::from_be_bytes([*i, *j, *k, *l]),
         }),
-        3 if size == 7 => Ok(Record::Give {
-            class: image[start + 1] as u32,
-            number: image[start + 2] as u32,
-            value: word(image, start + 3),
+        [3, class, number, a, b, c, d] => Ok(Record::Give {
+            class: u32::from(*class),
+            number: u32::from(*number),
+            value: u32::from_be_bytes([*a, *b, *c, *d]),
         }),
-        4 if size == 1 => Ok(Record::End),
+        [4] => Ok(Record::End),
         _ => Err(ImageFault::Unknown),
     }
-}
-
-fn half(image: &[u8], place: usize) -> u16
-    requires { place + 2 ≤ length image.now }
-    ensures { result ≡ half_at image.now place }
-{
-    u16::from_be_bytes([image[place], image[place + 1]])
-}
-
-fn word(image: &[u8], place: usize) -> u32
-    requires { place + 4 ≤ length image.now }
-    ensures { result ≡ word_at image.now place }
-{
-    u32::from_be_bytes([
-        image[place],
-        image[place + 1],
-        image[place + 2],
-        image[place + 3],
-    ])
 }

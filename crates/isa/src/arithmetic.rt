@@ -1,21 +1,15 @@
 // Sums and differences of 32-bit numbers with their carry and overflow, and the conditions on two numbers.
 ghost use Rattle.std.specs.Prelude.{◌≡◌};
-ghost use Rattle.isa.specs.Arithmetic.{one_if, biased, sum_of, difference_of, inverted_if, meets as meets_it, meets_signed};
+ghost use Rattle.isa.specs.Arithmetic.{held as held_in, biased, sum_of, difference_of, inverted_if, meets as meets_it, meets_signed};
 
 use super::instruction::Condition;
 
 // What an addition or a subtraction comes to; the carry of a subtraction is its borrow.
-#[derive(Clone, Copy, Drop)]
+#[derive(Clone, Copy, PartialEq, Eq, Debug, Drop)]
 pub struct Sum {
     pub carry: bool,
     pub overflow: bool,
     pub value: u32,
-}
-
-pub fn bit(on: bool) -> u32
-    ensures { result ≡ one_if on }
-{
-    if on { 1 } else { 0 }
 }
 
 // Signed numbers in the order of unsigned ones.
@@ -25,26 +19,33 @@ fn bias(x: u32) -> u32
     x.wrapping_add(0x8000_0000)
 }
 
+// Whether 32 bits hold the signed number that two biased ones sum up to.
+fn fits(sum: u64) -> bool
+    ensures { result ≡ held_in sum }
+{
+    (0x8000_0000..0x1_8000_0000).contains(&sum)
+}
+
 pub fn add(x: u32, y: u32, carry: bool) -> Sum
     ensures { result ≡ sum_of x y carry }
 {
-    let sum = x as u64 + y as u64 + bit(carry) as u64;
-    let signed = bias(x) as u64 + bias(y) as u64 + bit(carry) as u64;
+    let sum = u64::from(x) + u64::from(y) + u64::from(carry);
+    let signed = u64::from(bias(x)) + u64::from(bias(y)) + u64::from(carry);
     Sum {
         carry: sum >= 0x1_0000_0000,
-        overflow: !(signed >= 0x8000_0000 && signed < 0x1_8000_0000),
+        overflow: !fits(signed),
         value: (sum % 0x1_0000_0000) as u32,
     }
 }
 
-pub fn subtract(x: u32, y: u32, borrow: bool) -> Sum
+pub fn sub(x: u32, y: u32, borrow: bool) -> Sum
     ensures { result ≡ difference_of x y borrow }
 {
-    let difference = x as u64 + 0x1_0000_0000 - y as u64 - bit(borrow) as u64;
-    let signed = bias(x) as u64 + 0x1_0000_0000 - bias(y) as u64 - bit(borrow) as u64;
+    let difference = u64::from(x) + 0x1_0000_0000 - u64::from(y) - u64::from(borrow);
+    let signed = u64::from(bias(x)) + 0x1_0000_0000 - u64::from(bias(y)) - u64::from(borrow);
     Sum {
-        carry: (x as u64) < y as u64 + bit(borrow) as u64,
-        overflow: !(signed >= 0x8000_0000 && signed < 0x1_8000_0000),
+        carry: u64::from(x) < u64::from(y) + u64::from(borrow),
+        overflow: !fits(signed),
         value: (difference % 0x1_0000_0000) as u32,
     }
 }
@@ -52,7 +53,7 @@ pub fn subtract(x: u32, y: u32, borrow: bool) -> Sum
 pub fn invert(on: bool, x: u32) -> u32
     ensures { result ≡ inverted_if on x }
 {
-    if on { 0xffff_ffff - x } else { x }
+    if on { !x } else { x }
 }
 
 impl Condition {
@@ -67,6 +68,7 @@ impl Condition {
         }
     }
 
+    // The same of the biased numbers, since definitions are over natural ones.
     pub fn holds_signed(self, x: u32, y: u32) -> bool
         ensures { result ≡ meets_signed self x y }
     {

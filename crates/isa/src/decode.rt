@@ -2,7 +2,7 @@
 ghost use Rattle.std.specs.Prelude.{◌≡◌};
 ghost use Rattle.isa.specs.Decode.{decoded, computing as computing_word, branching as branching_word, on_operand, operand as operand_of, words as words_of};
 
-use super::fields::{a, b, bit, bits, condition, r, signed_bits};
+use super::fields::{A, B, R, bit, bits, condition, register, signed_bits};
 use super::instruction::{Instruction, Operand};
 
 // The instruction of a word, or none where its number is not listed, a field is forbidden, or a bit without a name is set.
@@ -24,13 +24,19 @@ fn computing(word: u32) -> Option<Instruction>
         0 => Some(Instruction::Brk {
             code: bits(word, 6, 31),
         }),
-        1 => Some(Instruction::Ldil { r: r(word), v }),
-        2 => Some(Instruction::Addil { r: r(word), v }),
+        1 => Some(Instruction::Ldil {
+            r: register(word, R),
+            v,
+        }),
+        2 => Some(Instruction::Addil {
+            r: register(word, R),
+            v,
+        }),
         3 => {
             let o = signed_bits(word, 10, 27);
             Some(Instruction::Ldo {
-                r: r(word),
-                b: b(word),
+                r: register(word, R),
+                b: register(word, B),
                 o,
             })
         }
@@ -43,7 +49,7 @@ fn on_operand(word: u32) -> Option<Instruction>
     ensures { result ≡ on_operand word (operand_of word) }
 {
     let x = operand(word)?;
-    let r = r(word);
+    let r = register(word, R);
     let l = bit(word, 10);
     let o = bit(word, 11);
     let when = condition(bits(word, 10, 11));
@@ -65,13 +71,16 @@ fn branching(word: u32) -> Option<Instruction>
     ensures { result ≡ branching_word word }
 {
     let when = condition(bits(word, 6, 7));
-    let a = a(word);
-    let b = b(word);
+    let a = register(word, A);
+    let b = register(word, B);
     let near = words(signed_bits(word, 8, 23));
     match bits(word, 0, 5) {
         32 => {
             let o = words(signed_bits(word, 10, 31));
-            Some(Instruction::B { r: r(word), o })
+            Some(Instruction::B {
+                r: register(word, R),
+                o,
+            })
         }
         37 => Some(Instruction::Cbr {
             when,
@@ -102,16 +111,10 @@ fn operand(word: u32) -> Option<Operand>
 {
     match bits(word, 12, 13) {
         0 => Some(Operand::Immediate(signed_bits(word, 14, 31))),
-        1 => {
-            if bits(word, 14, 23) == 0 {
-                Some(Operand::Registers {
-                    a: a(word),
-                    b: b(word),
-                })
-            } else {
-                None
-            }
-        }
+        1 if bits(word, 14, 23) == 0 => Some(Operand::Registers {
+            a: register(word, A),
+            b: register(word, B),
+        }),
         _ => None,
     }
 }

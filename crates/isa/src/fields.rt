@@ -1,6 +1,6 @@
 // The fields of an instruction word.
-ghost use Rattle.std.specs.Prelude.{◌≡◌, ◌-◌, ◌<◌, ◌≤◌};
-ghost use Rattle.isa.specs.Fields.{bits as bits_of, bit as bit_of, signed_bits, field_r, field_a, field_b, condition as condition_of};
+ghost use Rattle.std.specs.Prelude.{◌≡◌, ◌+◌, ◌-◌, ◌<◌, ◌≤◌};
+ghost use Rattle.isa.specs.Fields.{bits as bits_of, bit as bit_of, signed_bits, condition as condition_of};
 
 use super::instruction::Condition;
 
@@ -33,24 +33,21 @@ pub(crate) fn signed_bits(word: u32, first: u32, last: u32) -> u32
     }
 }
 
-pub(crate) fn r(word: u32) -> u8
-    ensures { result ≡ field_r word }
+// Where the fields of four bits begin that name a register.
+pub(crate) const R: u32 = 6;
+
+pub(crate) const A: u32 = 24;
+
+pub(crate) const B: u32 = 28;
+
+pub(crate) fn register(word: u32, first: u32) -> u8
+    requires { first ≤ 28 }
+    ensures { result ≡ bits_of first (first + 3) word }
 {
-    bits(word, 6, 9) as u8
+    bits(word, first, first + 3) as u8
 }
 
-pub(crate) fn a(word: u32) -> u8
-    ensures { result ≡ field_a word }
-{
-    bits(word, 24, 27) as u8
-}
-
-pub(crate) fn b(word: u32) -> u8
-    ensures { result ≡ field_b word }
-{
-    bits(word, 28, 31) as u8
-}
-
+// Two bits name a condition; a From would have to take every number.
 pub(crate) fn condition(number: u32) -> Condition
     ensures { result ≡ condition_of number }
 {

@@ -1,7 +1,7 @@
 // The instructions, with their fields taken out of the word. Signed fields are filled to 32 bits, and what an
 // instruction multiplies by a constant is multiplied already.
 
-#[derive(Clone, Copy, Drop)]
+#[derive(Clone, Copy, PartialEq, Eq, Debug, Drop)]
 pub enum Condition {
     Equal,
     Less,
@@ -10,7 +10,7 @@ pub enum Condition {
 }
 
 // The two numbers that the operand form works on: GR[r] and the immediate value, or GR[a] and GR[b].
-#[derive(Clone, Copy, Drop)]
+#[derive(Clone, Copy, PartialEq, Eq, Debug, Drop)]
 pub enum Operand {
     Immediate(u32),
     Registers { a: u8, b: u8 },
@@ -18,7 +18,7 @@ pub enum Operand {
 
 // The fields have their names in the instruction set: `r`, `a` and `b` are registers, `v` and `o` numbers; `l`, `o`, `n` and
 // `c` of an operand instruction are its options L, O, N and C, and `x` is its operand.
-#[derive(Clone, Copy, Drop)]
+#[derive(Clone, Copy, PartialEq, Eq, Debug, Drop)]
 pub enum Instruction {
     Brk {
         code: u32,

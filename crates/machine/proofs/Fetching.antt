@@ -1,6 +1,7 @@
 -- What a fetch finds, in memory or in the decode cache.
-use Rattle.std.proofs.Common.{◌≡◌, ℕ, ◌/◌, true, false, not, None, Ok, Err, Option, Result, sym, ap, ◌∙◌}
+use Rattle.std.proofs.Common.{◌≡◌, ℕ, ◌/◌, true, false, not, Some, None, Ok, Err, Option, Result, sym, refl, ap, ◌∙◌, arith}
 use Rattle.std.proofs.lemmas.Bool.{and_from, and_left, and_right, ne_eqb, eq-eqb, cond-true, cond-false}
+use Rattle.std.specs.Result.{result_ok}
 use Rattle.tlb.specs.declared.info.Info.{Info}
 use Rattle.tlb.specs.Table.{found}
 use Rattle.memory.specs.declared.memory.MemoryFault.{MemoryFault}
@@ -28,6 +29,15 @@ module _ (way : Way) (s : State) where
   pub code_illegal : (w : ℕ) (c : Cause) → reading s.bytes 4 way.address ≡ Ok w → decoded w ≡ None → c ≡ failed Illegal w → Err c ≡ code_of way s
   unfolding code_of
   code_illegal w c read none is = ap Err is ∙ sym (ap (by_read s.registers way) read ∙ ap (by_decoding w) none)
+
+-- a word that was read, or was not
+pub read_some : (r : Result ℕ MemoryFault) (w : ℕ) → result_ok r ≡ Some w → r ≡ Ok w
+read_some (Ok v) w e = cc
+read_some (Err f) w e = let z : ◌≡◌ {A = ℕ} 0 1 = cc in absurd (omega arith)
+
+pub read_none : (r : Result ℕ MemoryFault) → result_ok r ≡ None → (f : MemoryFault) × (r ≡ Err f)
+read_none (Ok v) e = let z : ◌≡◌ {A = ℕ} 0 1 = cc in absurd (omega arith)
+read_none (Err f) e = (f, refl)
 
 -- the two ways to the current instruction
 module _ (s : State) where

@@ -1,14 +1,15 @@
 -- What the parts of a machine's methods come to together, over any memory, table and cache.
-use Rattle.std.proofs.Common.{◌≡◌, ℕ, Some, None, Ok, Err, Result, sym, refl, ap, ◌∙◌}
+use Rattle.std.proofs.Common.{◌≡◌, ℕ, Some, None, Ok, Err, Option, Result, sym, refl, ap, ◌∙◌}
 use Rattle.memory.specs.declared.memory.Memory
 use Rattle.tlb.specs.declared.table.Tlb
 use Rattle.decode_cache.specs.declared.cache.DecodeCache
 use Rattle.decode_cache.specs.declared.cache.Decoded.{Decoded}
 use Rattle.registers.specs.declared.registers.Registers.{Registers}
 use Rattle.registers.specs.declared.trap.Cause.{Cause}
+use Rattle.registers.specs.declared.trap.Trap.{Trap}
 use Rattle.registers.specs.declared.trap.Trap.TheVariants.{Interrupt}
 use Rattle.registers.specs.Interrupts.{open_line, by_line, line_cleared, interrupt}
-use Rattle.registers.specs.Trap.{trap_number, trapped}
+use Rattle.registers.specs.Trap.{trapped}
 use Rattle.machine.specs.declared.machine.Machine.{Machine}
 use Rattle.machine.specs.declared.way.Way.{Way}
 use Rattle.machine.specs.declared.way.Fetched.{Fetched}
@@ -99,7 +100,7 @@ module _ {M T C : Type 0} (mem : Memory.Ghosts M) (tlb : Tlb.Ghosts T) (cache : 
 
   -- ---- a step
 
-  pub turn_interrupted : (a : Machine M T C) (n k : ℕ) (q r : Registers) (c : Cause) → k ≡ trap_number Interrupt → Some n ≡ open_line a.registers → q ≡ by_line a.registers (open_line a.registers) → c ≡ interrupt n → r ≡ trapped q c → Did mem tlb cache turned a k (holding a r)
+  pub turn_interrupted : (a : Machine M T C) (n : ℕ) (k : Option Trap) (q r : Registers) (c : Cause) → k ≡ Some Interrupt → Some n ≡ open_line a.registers → q ≡ by_line a.registers (open_line a.registers) → c ≡ interrupt n → r ≡ trapped q c → Did mem tlb cache turned a k (holding a r)
   turn_interrupted a n k q r c number line cleared is after =
       let q_is : q ≡ line_cleared a.registers n = cleared ∙ sym (ap (by_line a.registers) line) in
       did_registers turned a k r (turned_interrupt (view mem tlb cache a) n k r line number (after ∙ ap (λ (x : Registers). trapped x c) q_is ∙ ap (trapped (line_cleared a.registers n)) is))
@@ -115,19 +116,19 @@ module _ {M T C : Type 0} (mem : Memory.Ghosts M) (tlb : Tlb.Ghosts T) (cache : 
     here : view mem tlb cache (holding a q) ≡ view mem tlb cache a
     here = ap (with_registers (view mem tlb cache a)) q_is
 
-    pub turn_done : Tried mem tlb cache attempted (holding a q) (Ok tt) b → Did mem tlb cache turned a 0 b
+    pub turn_done : Tried mem tlb cache attempted (holding a q) (Ok tt) b → Did mem tlb cache turned a None b
     turn_done p =
         let said = λ (s : Sound mem tlb cache a). p.answer (still_sound a q s) ∙ ap (λ (x : State). says (attempted x)) here in
         let ended = λ (s : Sound mem tlb cache a). p.state (still_sound a q s) ∙ ap (λ (x : State). ends x (attempted x)) here in
         let whole = λ (s : Sound mem tlb cache a). turned_done (view mem tlb cache a) _ none (tried_done (view mem tlb cache a) _ (said s)) in
         record {
-          answer = λ s. ap (λ (d : Done ℕ). d.answer) (whole s);
-          state = λ s. ended s ∙ ap (λ (d : Done ℕ). d.state) (whole s);
+          answer = λ s. ap (λ (d : Done (Option Trap)). d.answer) (whole s);
+          state = λ s. ended s ∙ ap (λ (d : Done (Option Trap)). d.state) (whole s);
           sound = λ s. p.sound (still_sound a q s);
           same = p.same;
         }
 
-    pub turn_trapped : (c : Cause) (n : ℕ) (r : Registers) → Tried mem tlb cache attempted (holding a q) (Err c) b → n ≡ trap_number c.trap → r ≡ trapped b.registers c → Did mem tlb cache turned a n (holding b r)
+    pub turn_trapped : (c : Cause) (n : Option Trap) (r : Registers) → Tried mem tlb cache attempted (holding a q) (Err c) b → n ≡ Some c.trap → r ≡ trapped b.registers c → Did mem tlb cache turned a n (holding b r)
     turn_trapped c n r p number is =
         let w = view mem tlb cache a in
         let failed = λ (s : Sound mem tlb cache a). tried_failed c _ (p.answer (still_sound a q s) ∙ ap (λ (x : State). says (attempted x)) here) in
@@ -135,8 +136,8 @@ module _ {M T C : Type 0} (mem : Memory.Ghosts M) (tlb : Tlb.Ghosts T) (cache : 
         let after = λ (s : Sound mem tlb cache a). is ∙ ap (λ (x : State). trapped x.registers c) (stays s) in
         let whole = λ (s : Sound mem tlb cache a). turned_trapped w c n r none (failed s) number (after s) in
         record {
-          answer = λ s. ap (λ (d : Done ℕ). d.answer) (whole s);
-          state = λ s. ap (λ (x : State). with_registers x r) (stays s) ∙ ap (λ (d : Done ℕ). d.state) (whole s);
+          answer = λ s. ap (λ (d : Done (Option Trap)). d.answer) (whole s);
+          state = λ s. ap (λ (x : State). with_registers x r) (stays s) ∙ ap (λ (d : Done (Option Trap)). d.state) (whole s);
           sound = λ s. still_sound b r (p.sound (still_sound a q s));
           same = p.same;
         }

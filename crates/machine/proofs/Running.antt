@@ -1,5 +1,5 @@
 -- Steps and runs, as they are called from outside.
-use Rattle.std.proofs.Common.{◌≡◌, ℕ, zero, suc, ◌+◌, ◌-◌, ◌<◌, ◌≤◌, Bool, true, false, cond, ltb, ◌⊎◌, Ok, Err, Result, sym, refl, ap, ◌∙◌, inl, inr, arith}
+use Rattle.std.proofs.Common.{◌≡◌, ℕ, zero, suc, ◌+◌, ◌-◌, ◌<◌, ◌≤◌, Bool, true, false, cond, ltb, ◌⊎◌, Ok, Err, Option, Result, sym, refl, ap, ◌∙◌, inl, inr, arith, MatchResult}
 use Rattle.std.proofs.lemmas.Bool.{cond-true, cond-false, lt-ltb, le-ltb}
 use Rattle.refusal.specs.declared.Refused.{Refused}
 use Rattle.refusal.specs.declared.Refusal.TheVariants.{Halted, TooManySteps}
@@ -8,12 +8,15 @@ use Rattle.memory.specs.declared.memory.Memory
 use Rattle.tlb.specs.declared.table.Tlb
 use Rattle.decode_cache.specs.declared.cache.DecodeCache
 use Rattle.registers.specs.declared.registers.Registers.{Registers}
+use Rattle.registers.specs.declared.trap.Trap.{Trap}
 use Rattle.registers.specs.Access.{with_steps}
+use Rattle.machine.specs.declared.fault.MachineFault.{MachineFault}
+use Rattle.machine.specs.declared.fault.MachineFault.TheVariants.{Halted as Stopped}
 use Rattle.machine.specs.declared.machine.Machine.{Machine}
 use Rattle.machine.specs.declared.machine.run.Ran.{Ran}
 use Rattle.machine.specs.State.{State, Done, with_registers}
-use Rattle.machine.specs.Step.{turned, run_after, run_count}
-use Rattle.machine.specs.Calls.{refuses, accepts, counted, ran, step, run}
+use Rattle.machine.specs.Step.{turned, taken, run_after, run_count}
+use Rattle.machine.specs.Calls.{going, refuses, accepts, counted, ran, step, run}
 use Rattle.machine.specs.Machine.{view, Sound, lent, Did}
 use Rattle.machine.proofs.Going.{holding, still_sound, did_registers}
 
@@ -41,6 +44,19 @@ count_end zero s h = refl
 count_end (suc n) s (inl h) = absurd (omega arith)
 count_end (suc n) s (inr off) = ap (λ (b : Bool). cond b 0 (1 + run_count n (turned s).state)) off
 
+-- a machine goes on unless it has halted
+going_by : (halted : Bool) (x : Result (Unit {0}) MachineFault) → x ≡ cond halted (Err Stopped) (Ok tt) → MatchResult x (λ _. halted ≡ false) (λ f. (halted ≡ true) × (f ≡ Stopped))
+going_by true (Ok u) e = let z : ◌≡◌ {A = ℕ} 0 1 = cc in absurd (omega arith)
+going_by true (Err f) e = (refl, cc)
+going_by false (Ok u) e = refl
+going_by false (Err f) e = let z : ◌≡◌ {A = ℕ} 0 1 = cc in absurd (omega arith)
+
+pub not_going : (r : Registers) (f : MachineFault) → Err f ≡ going r → (r.halted ≡ true) × (f ≡ Stopped)
+not_going r f e = going_by r.halted (Err f) e
+
+pub still_going : (r : Registers) → Ok tt ≡ going r → r.halted ≡ false
+still_going r e = going_by r.halted (Ok tt) e
+
 module _ {M T C : Type 0} (mem : Memory.Ghosts M) (tlb : Tlb.Ghosts T) (cache : DecodeCache.Ghosts C) where
   -- ---- a step
 
@@ -48,13 +64,13 @@ module _ {M T C : Type 0} (mem : Memory.Ghosts M) (tlb : Tlb.Ghosts T) (cache : 
   unfolding step
   step_halted a off = did_registers mem tlb cache step a (Err (refused Halted)) a.registers (sym (cond-true _ _ _ off))
 
-  pub step_goes : (a b : Machine M T C) (n : ℕ) (r : Registers) → a.registers.halted ≡ false → Did mem tlb cache turned a n b → r ≡ with_steps b.registers 1 → Did mem tlb cache step a (Ok n) (holding b r)
+  pub step_goes : (a b : Machine M T C) (n : Option Trap) (k : ℕ) (r : Registers) → a.registers.halted ≡ false → Did mem tlb cache turned a n b → k ≡ taken n → r ≡ with_steps b.registers 1 → Did mem tlb cache step a (Ok k) (holding b r)
   unfolding step
-  step_goes a b n r on p is =
+  step_goes a b n k r on p number is =
       let v = view mem tlb cache a in
-      let e = sym (cond-false v.registers.halted (refuses v (refused Halted)) (accepts (turned v).answer (counted (turned v).state 1)) on) in
+      let e = sym (cond-false v.registers.halted (refuses v (refused Halted)) (accepts (taken (turned v).answer) (counted (turned v).state 1)) on) in
       record {
-        answer = λ s. ap Ok (p.answer s) ∙ ap (λ (d : Done (Result ℕ Refused)). d.answer) e;
+        answer = λ s. ap Ok (number ∙ ap taken (p.answer s)) ∙ ap (λ (d : Done (Result ℕ Refused)). d.answer) e;
         state = λ s. ap (with_registers (view mem tlb cache b)) is ∙ ap (λ (x : State). counted x 1) (p.state s) ∙ ap (λ (d : Done (Result ℕ Refused)). d.state) e;
         sound = λ s. still_sound mem tlb cache b r (p.sound s);
         same = p.same;
@@ -78,7 +94,7 @@ module _ {M T C : Type 0} (mem : Memory.Ghosts M) (tlb : Tlb.Ghosts T) (cache : 
     pub sound : Sound mem tlb cache a → Sound mem tlb cache b
     pub same : lent mem tlb cache b ≡ lent mem tlb cache a
 
-  pub run_goes : (n left k : ℕ) (a b d : Machine M T C) → 0 < left → b.registers.halted ≡ false → Running n left a b → Did mem tlb cache turned b k d → Running n (left - 1) a d
+  pub run_goes : (n left : ℕ) (k : Option Trap) (a b d : Machine M T C) → 0 < left → b.registers.halted ≡ false → Running n left a b → Did mem tlb cache turned b k d → Running n (left - 1) a d
   run_goes n left k a b d pos on i p =
       let w = i.within in
       record {

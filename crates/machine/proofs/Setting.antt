@@ -1,5 +1,5 @@
 -- Registers given and translations mapped from outside.
-use Rattle.std.proofs.Common.{◌≡◌, ℕ, true, false, ◌||◌, eqb, ltb, Some, None, Ok, Err, sym, ap, ◌∙◌}
+use Rattle.std.proofs.Common.{◌≡◌, ℕ, true, false, ◌||◌, eqb, ltb, Some, None, Ok, Err, Result, sym, ap, ◌∙◌}
 use Rattle.std.proofs.lemmas.Bool.{cond-true, cond-false}
 use Rattle.refusal.specs.declared.Refused.{Refused}
 use Rattle.refusal.specs.declared.Refusal.TheVariants.{BadTranslation}
@@ -42,6 +42,9 @@ module _ {M T C : Type 0} (mem : Memory.Ghosts M) (tlb : Tlb.Ghosts T) (cache : 
         did_registers mem tlb cache (give class number value) a (Err e) q
         (ap (λ (x : Refused). refuses (with_registers v q) x) is ∙ ap (λ (r : Registers). refuses (with_registers v r) (register_raised f)) (after ∙ ap (ends a.registers) failed) ∙ sym (ap (give_by v) failed))
 
+pub same_fault : {A E : Type 0} (f g : E) → ◌≡◌ {A = Result A E} (Err f) (Err g) → f ≡ g
+same_fault f g e = cc
+
 -- ---- a translation mapped, in the state
 
 module _ (segment page word : ℕ) (s : State) where
@@ -56,7 +59,7 @@ module _ (segment page word : ℕ) (s : State) where
 
     module _ (i : Info) (info : Some i ≡ info_of word) where
       abbrev new : Translation
-      new = record { segment = segment; page = page; info = i }
+      new = record { page = record { segment = segment; number = page }; info = i }
 
       by_table : map_by s new (inserting s.translations s.slots new) ≡ map segment page word s
       unfolding map

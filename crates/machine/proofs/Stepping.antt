@@ -1,5 +1,5 @@
 -- The work of an instruction, and how a step ends, in the state alone.
-use Rattle.std.proofs.Common.{◌≡◌, ℕ, Bool, true, false, ◌&&◌, Some, None, Ok, Err, Result, sym, ap, ◌∙◌}
+use Rattle.std.proofs.Common.{◌≡◌, ℕ, Bool, true, false, ◌&&◌, Some, None, Ok, Err, Option, Result, sym, ap, ◌∙◌}
 use Rattle.registers.specs.declared.registers.Registers.{Registers}
 use Rattle.registers.specs.declared.trap.Trap.{Trap}
 use Rattle.registers.specs.declared.trap.Trap.TheVariants.{Interrupt, Privileged}
@@ -9,7 +9,7 @@ use Rattle.registers.specs.Finish.{finished, privileged}
 use Rattle.registers.specs.Tried.{ends, says}
 use Rattle.registers.proofs.Tried.{tried_done, tried_failed, tried_stays}
 use Rattle.registers.specs.Interrupts.{open_line, line_cleared, interrupt}
-use Rattle.registers.specs.Trap.{trap_number, trapped}
+use Rattle.registers.specs.Trap.{trapped}
 use Rattle.machine.specs.declared.way.Fetched.{Fetched}
 use Rattle.machine.specs.State.{State, with_registers}
 use Rattle.machine.specs.Reach.{refuse, failed}
@@ -55,17 +55,17 @@ level_restored s f p q r t before leveled after said was is =
 -- ---- how a step ends
 
 module _ (s : State) where
-  pub turned_interrupt : (n k : ℕ) (r : Registers) → Some n ≡ open_line s.registers → k ≡ trap_number Interrupt → r ≡ trapped (line_cleared s.registers n) (interrupt n) → record { answer = k; state = with_registers s r } ≡ turned s
+  pub turned_interrupt : (n : ℕ) (k : Option Trap) (r : Registers) → Some n ≡ open_line s.registers → k ≡ Some Interrupt → r ≡ trapped (line_cleared s.registers n) (interrupt n) → record { answer = k; state = with_registers s r } ≡ turned s
   unfolding turned
   turned_interrupt n k r line number is =
-      ap (λ (m : ℕ). record { answer = m; state = with_registers s r }) number ∙ ap (λ (q : Registers). record { answer = trap_number Interrupt; state = with_registers s q }) is ∙ ap (by_line s) line
+      ap (λ (m : Option Trap). record { answer = m; state = with_registers s r }) number ∙ ap (λ (q : Registers). record { answer = Some Interrupt; state = with_registers s q }) is ∙ ap (by_line s) line
 
-  pub turned_done : (t : State) → None ≡ open_line s.registers → attempted s ≡ Ok t → record { answer = 0; state = t } ≡ turned s
+  pub turned_done : (t : State) → None ≡ open_line s.registers → attempted s ≡ Ok t → record { answer = None; state = t } ≡ turned s
   unfolding turned
   turned_done t none done = sym (ap (settled s) done) ∙ ap (by_line s) none
 
-  pub turned_trapped : (c : Cause) (n : ℕ) (r : Registers) → None ≡ open_line s.registers → attempted s ≡ Err c → n ≡ trap_number c.trap → r ≡ trapped s.registers c → record { answer = n; state = with_registers s r } ≡ turned s
+  pub turned_trapped : (c : Cause) (n : Option Trap) (r : Registers) → None ≡ open_line s.registers → attempted s ≡ Err c → n ≡ Some c.trap → r ≡ trapped s.registers c → record { answer = n; state = with_registers s r } ≡ turned s
   unfolding turned
   turned_trapped c n r none failed number is =
-      ap (λ (k : ℕ). record { answer = k; state = with_registers s r }) number ∙ ap (λ (q : Registers). record { answer = trap_number c.trap; state = with_registers s q }) is ∙
+      ap (λ (k : Option Trap). record { answer = k; state = with_registers s r }) number ∙ ap (λ (q : Registers). record { answer = Some c.trap; state = with_registers s q }) is ∙
       sym (ap (settled s) failed) ∙ ap (by_line s) none

@@ -17,9 +17,11 @@ use Rattle.registers.specs.declared.give.RegisterFault.{RegisterFault}
 use Rattle.registers.specs.Access.{with_steps}
 use Rattle.registers.specs.Give.{given}
 use Rattle.registers.specs.Raised.{raised as register_raised}
+use Rattle.machine.specs.declared.fault.MachineFault.{MachineFault}
+use Rattle.machine.specs.declared.fault.MachineFault.TheVariants.{Halted as Stopped}
 use Rattle.machine.specs.declared.machine.run.Ran.{Ran}
 use Rattle.machine.specs.State.{State, Done, with_registers, with_bytes, with_translations}
-use Rattle.machine.specs.Step.{turned, run_after, run_count}
+use Rattle.machine.specs.Step.{turned, taken, run_after, run_count}
 
 abbrev pub Answer : Type 0
 Answer = Result (Unit {0}) Refused
@@ -80,7 +82,7 @@ map_by s t (Ok u) = accepts tt (with_translations s (inserted s.translations s.s
 abbrev pub map_info : State → ℕ → ℕ → Option Info → Done Answer
 map_info s segment page None = refuses s (refused BadTranslation)
 map_info s segment page (Some i) =
-    map_by s (record { segment = segment; page = page; info = i }) (inserting s.translations s.slots (record { segment = segment; page = page; info = i }))
+    map_by s (record { page = record { segment = segment; number = page }; info = i }) (inserting s.translations s.slots (record { page = record { segment = segment; number = page }; info = i }))
 
 -- no translation is for segment 0, or for a page past the last
 unfoldable pub map : ℕ → ℕ → ℕ → State → Done Answer
@@ -91,8 +93,12 @@ map segment page word s = cond (segment == 0 || nat_lt 262143 page) (refuses s (
 abbrev pub counted : State → ℕ → State
 counted s n = with_registers s (with_steps s.registers n)
 
+-- whether a machine makes steps
+abbrev pub going : Registers → Result (Unit {0}) MachineFault
+going r = cond r.halted (Err Stopped) (Ok tt)
+
 unfoldable pub step : State → Done (Result ℕ Refused)
-step s = cond s.registers.halted (refuses s (refused Halted)) (accepts (turned s).answer (counted (turned s).state 1))
+step s = cond s.registers.halted (refuses s (refused Halted)) (accepts (taken (turned s).answer) (counted (turned s).state 1))
 
 -- the count, and whether the machine has halted
 abbrev pub ran : ℕ → State → Ran

@@ -12,13 +12,13 @@ pub record State : Type 0 where
   pub translations : List Translation
 
 abbrev pub with_registers : State → Registers → State
-with_registers s r = record { registers = r; bytes = s.bytes; marks = s.marks; slots = s.slots; translations = s.translations }
+with_registers s r = record s { registers = r }
 
 abbrev pub with_bytes : State → List ℕ → State
-with_bytes s bs = record { registers = s.registers; bytes = bs; marks = s.marks; slots = s.slots; translations = s.translations }
+with_bytes s bs = record s { bytes = bs }
 
 abbrev pub with_translations : State → List Translation → State
-with_translations s ts = record { registers = s.registers; bytes = s.bytes; marks = s.marks; slots = s.slots; translations = ts }
+with_translations s ts = record s { translations = ts }
 
 -- a machine just made over a memory and a table
 abbrev pub fresh : List ℕ → List Bool → ℕ → State

@@ -33,17 +33,22 @@ unfoldable pub attempted : State → Result State Cause
 attempted s = by_fetch s (fetched s)
 
 -- a cause traps with the registers as they were before the step
-abbrev pub settled : State → Result State Cause → Done ℕ
-settled s (Ok t) = record { answer = 0; state = t }
-settled s (Err c) = record { answer = trap_number c.trap; state = with_registers s (trapped s.registers c) }
+abbrev pub settled : State → Result State Cause → Done (Option Trap)
+settled s (Ok t) = record { answer = None; state = t }
+settled s (Err c) = record { answer = Some c.trap; state = with_registers s (trapped s.registers c) }
 
-abbrev pub by_line : State → Option ℕ → Done ℕ
+abbrev pub by_line : State → Option ℕ → Done (Option Trap)
 by_line s None = settled s (attempted s)
-by_line s (Some n) = record { answer = trap_number Interrupt; state = with_registers s (trapped (line_cleared s.registers n) (interrupt n)) }
+by_line s (Some n) = record { answer = Some Interrupt; state = with_registers s (trapped (line_cleared s.registers n) (interrupt n)) }
 
--- one step, and the number of the trap that it took, or 0
-unfoldable pub turned : State → Done ℕ
+-- one step, and the trap that it took, if it took one
+unfoldable pub turned : State → Done (Option Trap)
 turned s = by_line s (open_line s.registers)
+
+-- the number of the trap that was taken, or 0
+abbrev pub taken : Option Trap → ℕ
+taken None = 0
+taken (Some t) = trap_number t
 
 -- ---- what a step fetches
 

@@ -1,5 +1,6 @@
 // The machine over any memory, translation table and decode cache.
 #![tactic(auto)]
 
+pub mod fault;
 pub mod machine;
 pub mod way;

@@ -2,7 +2,7 @@
 use decode_cache::cache::Decoded;
 
 // Where an instruction stands in memory, at which level it runs, and the segment that a trap shows, 0 where none is used.
-#[derive(Clone, Copy, Drop)]
+#[derive(Clone, Copy, PartialEq, Eq, Debug, Drop)]
 pub struct Way {
     pub user: bool,
     pub segment: u16,
@@ -10,7 +10,7 @@ pub struct Way {
 }
 
 // The instruction that was fetched, with the level that it runs at.
-#[derive(Clone, Copy, Drop)]
+#[derive(Clone, Copy, PartialEq, Eq, Debug, Drop)]
 pub struct Fetched {
     pub user: bool,
     pub decoded: Decoded,

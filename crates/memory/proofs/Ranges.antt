@@ -1,15 +1,14 @@
 -- What a range's answer is made of, and that an accepted range can be written and read byte by byte.
-use Rattle.std.proofs.Common.{◌≡◌, ℕ, zero, suc, ◌+◌, ◌-◌, ◌/◌, ◌%◌, ◌<◌, ◌≤◌, Bool, true, false, cond, leb, List, length, get_or, take, drop, Ok, Err, Result, sym, refl, ap, ◌∙◌, ⊎_elim, add-one, arith, MatchResult}
+use Rattle.std.proofs.Common.{◌≡◌, ℕ, zero, suc, ◌+◌, ◌-◌, ◌/◌, ◌%◌, ◌<◌, ◌≤◌, Bool, true, false, cond, leb, ◌||◌, List, length, get_or, take, drop, Ok, Err, Result, sym, refl, ap, ◌∙◌, ⊎_elim, add-zero, arith, MatchResult}
 use Rattle.std.proofs.lemmas.List.{ext_get_or, length-drop, length-take-le, get_or-take, get_or-drop, get_or_past}
-use Rattle.std.proofs.lemmas.Bool.{leb-true, leb-false, le-leb, eq-eqb, ne_eqb, or_left, or_right, or_from, cases_eq, cases_Bool, both_ways}
+use Rattle.std.proofs.lemmas.Bool.{leb-true, leb-false, le-leb, eq-eqb, ne_eqb, or_left, or_right, cases_eq, cases_Bool, both_ways}
+use Rattle.std.proofs.Math.Bool.{or-false, or_assoc}
+use Rattle.std.specs.List.{list_any, range_with_len}
 use Rattle.memory.specs.declared.memory.MemoryFault.{MemoryFault}
 use Rattle.memory.specs.declared.memory.MemoryFault.TheVariants.{Outside, ReadOnly}
 use Rattle.memory.specs.Pages.{marked_at}
 use Rattle.memory.specs.Access.{reading, writing, some_marked, touched, range_answer, range_reading, range_read}
 use Rattle.memory.proofs.Widths.{number_one}
-
-pub some_marked_next : (marks : List Bool) (first i : ℕ) → some_marked marks first i ≡ false → get_or marks (first + i) false ≡ false → some_marked marks first (i + 1) ≡ false
-some_marked_next marks first i before here = rw add-one (or_from (some_marked marks first i) (get_or marks (first + i) false) before here)
 
 -- a marked page among the first of a row is one of the row
 pub some_marked_from : (marks : List Bool) (first i n : ℕ) → i < n → get_or marks (first + i) false ≡ true → some_marked marks first n ≡ true
@@ -24,12 +23,19 @@ none_marked_at marks first i n h none =
     ⊎_elim (λ yes. absurd (both_ways (some_marked marks first n) none (some_marked_from marks first i n h yes))) (λ no. no)
     (cases_Bool (get_or marks (first + i) false))
 
--- one page more, where a loop counts the pages by their own numbers
-pub pages_clear_next : (marks : List Bool) (first page : ℕ) → first ≤ page → some_marked marks first (page - first) ≡ false → false ≡ get_or marks page false → some_marked marks first (page + 1 - first) ≡ false
-pages_clear_next marks first page h before here =
-    let place : page ≡ first + (page - first) = omega arith in
-    let next : page + 1 - first ≡ page - first + 1 = omega arith in
-    rw next (some_marked_next marks first (page - first) before (ap (λ k. get_or marks k false) (sym place) ∙ sym here))
+-- the first page of a row, and the others
+marked_first : (marks : List Bool) (first n : ℕ) → some_marked marks first (suc n) ≡ (get_or marks first false || some_marked marks (first + 1) n)
+marked_first marks first zero = rw (add-zero, or-false) refl
+marked_first marks first (suc n) =
+    let place : first + suc n ≡ first + 1 + n = omega arith in
+    ap (λ b. b || get_or marks (first + suc n) false) (marked_first marks first n) ∙
+    or_assoc (get_or marks first false) (some_marked marks (first + 1) n) (get_or marks (first + suc n) false) ∙
+    ap (λ k. get_or marks first false || (some_marked marks (first + 1) n || get_or marks k false)) place
+
+-- the pages of a row asked one after another
+pub any_marked : (marks : List Bool) (first n : ℕ) → list_any (λ page. get_or marks page false) (range_with_len first n) ≡ some_marked marks first n
+any_marked marks first zero = refl
+any_marked marks first (suc n) = ap (λ b. get_or marks first false || b) (any_marked marks (first + 1) n) ∙ sym (marked_first marks first n)
 
 module _ (bs : List ℕ) (marks : List Bool) (a n : ℕ) where
   pub range_outside : false ≡ leb (a + n) (length bs) → Err Outside ≡ range_answer bs marks a n
@@ -42,19 +48,13 @@ module _ (bs : List ℕ) (marks : List Bool) (a n : ℕ) where
     range_empty none = rw (← ends, eq-eqb n 0 none)
 
     module _ (some : n ≡ 0 → ⊥) where
-      pub range_marked : (page : ℕ) → a / 16384 ≤ page → page < (a + n - 1) / 16384 + 1 → true ≡ get_or marks page false → Err ReadOnly ≡ range_answer bs marks a n
+      pub range_marked : true ≡ some_marked marks (a / 16384) ((a + n - 1) / 16384 + 1 - a / 16384) → Err ReadOnly ≡ range_answer bs marks a n
       unfolding range_answer
-      range_marked page low high here =
-          let place : page ≡ a / 16384 + (page - a / 16384) = omega arith in
-          let found =
-          some_marked_from marks (a / 16384) (page - a / 16384) ((a + n - 1) / 16384 + 1 - a / 16384) (omega arith)
-          (ap (λ k. get_or marks k false) (sym place) ∙ sym here)
-          in
-          rw (← ends, ne_eqb n 0 some, found)
+      range_marked found = rw (← ends, ne_eqb n 0 some, ← found)
 
-      pub range_clear : some_marked marks (a / 16384) ((a + n - 1) / 16384 + 1 - a / 16384) ≡ false → Ok tt ≡ range_answer bs marks a n
+      pub range_clear : false ≡ some_marked marks (a / 16384) ((a + n - 1) / 16384 + 1 - a / 16384) → Ok tt ≡ range_answer bs marks a n
       unfolding range_answer
-      range_clear none = rw (← ends, ne_eqb n 0 some, none)
+      range_clear none = rw (← ends, ne_eqb n 0 some, ← none)
 
 -- what an accepted range is
 pub record Accepted (bs : List ℕ) (marks : List Bool) (a n : ℕ) : Type 0 where

@@ -1,8 +1,9 @@
 -- Accesses to two memories as one: a page lies on one side of the seam, and so does every access.
-use Rattle.std.proofs.Common.{◌≡◌, ℕ, zero, suc, ◌+◌, ◌-◌, ◌*◌, ◌/◌, ◌%◌, ◌<◌, ◌≤◌, Bool, true, false, cond, List, [], ◌++◌, length, get_or, set, Some, None, Ok, Err, Option, sym, refl, ap, ◌∙◌, ⊎_elim, arith, length-append}
+use Rattle.std.proofs.Common.{◌≡◌, ℕ, zero, suc, ◌+◌, ◌-◌, ◌*◌, ◌/◌, ◌%◌, ◌<◌, ◌≤◌, Bool, true, false, cond, List, [], ◌++◌, length, get_or, set, Some, None, Ok, Err, Option, Result, sym, refl, ap, ◌∙◌, ⊎_elim, arith, length-append}
 use Rattle.std.proofs.lemmas.List.{get_or_append_left, get_or-append_right, set-append_left, set-append_right}
 use Rattle.std.proofs.lemmas.Bool.{cases_Bool, and_left, cond-true, cond-false}
 use Rattle.std.proofs.lemmas.Bool.Decides.{nat_tests}
+use Rattle.memory.specs.declared.memory.MemoryFault.{MemoryFault}
 use Rattle.memory.specs.declared.memory.MemoryFault.TheVariants.{Outside}
 use Rattle.memory.specs.Bytes.{known_width, inside, number_at, stored_at}
 use Rattle.memory.specs.Pages.{Paged, marked_at}
@@ -81,6 +82,10 @@ seam_by false m n s is e = let z : ◌≡◌ {A = ℕ} 0 1 = cc in absurd (omega
 
 pub at_seam : (m n s : ℕ) → Some s ≡ seam_of m n → Seam m n s
 at_seam m n s e = seam_by (joins m n) m n s refl e
+
+-- a fault is the same whatever the answer would have been
+pub told_again : (f g : MemoryFault) → ◌≡◌ {A = Result ℕ MemoryFault} (Err f) (Err g) → ◌≡◌ {A = Result (Unit {0}) MemoryFault} (Err f) (Err g)
+told_again f g e = let same : f ≡ g = cc in ap Err same
 
 seamless_by : (b : Bool) (m : ℕ) → ◌≡◌ {A = Option ℕ} None (cond b (Some m) None) → b ≡ false
 seamless_by true m e = let z : ◌≡◌ {A = ℕ} 0 1 = cc in absurd (omega arith)

@@ -73,7 +73,7 @@ reading_from_number bs cs w a long same =
     (λ no. let also : inside w (length cs) a ≡ false = ap (λ n. inside w n a) (sym long) ∙ no in rw (no, also))
     (cases_Bool (inside w (length bs) a))
 
-answered_inside : (yes : Bool) (v w : ℕ) → ◌≡◌ {A = Result ℕ MemoryFault} (cond yes (Ok v) (Err Outside)) (Ok w) → yes ≡ true
+pub answered_inside : (yes : Bool) (v w : ℕ) → ◌≡◌ {A = Result ℕ MemoryFault} (cond yes (Ok v) (Err Outside)) (Ok w) → yes ≡ true
 answered_inside true v w e = refl
 answered_inside false v w e = let z : ◌≡◌ {A = ℕ} 0 1 = cc in absurd (omega arith)
 

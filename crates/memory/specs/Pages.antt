@@ -21,10 +21,7 @@ well_sized n = not (n == 0) && (n % 16384 == 0 && nat_le n 4194304)
 abbrev pub sized : ℕ → Result (Unit {0}) Refusal
 sized n = cond (well_sized n) (Ok tt) (Err BadSize)
 
--- a memory over n bytes has all of them, or none
-abbrev pub usable_of : ℕ → ℕ
-usable_of n = cond (well_sized n) n 0
-
+-- a memory over bytes has all of them, or none
 abbrev pub whole : List ℕ → List ℕ
 whole bs = cond (well_sized (length bs)) bs []
 

@@ -3,6 +3,7 @@ ghost use Rattle.std.specs.Prelude.{◌≡◌, ◌++◌, length};
 ghost use Rattle.memory.specs.Joining.{joins, joinable, seam_of, joined_bytes, joined_marks, joined_paged};
 
 use super::memory::{Memory, MemoryFault};
+use super::size::within;
 use super::{MOST_PAGES, PAGE_BYTES};
 use refusal::Refusal;
 
@@ -10,17 +11,15 @@ use refusal::Refusal;
 fn join(lower: u64, upper: u64) -> bool
     ensures { result ≡ joins lower upper }
 {
-    lower != 0 && upper != 0 && lower <= MOST_PAGES && upper <= MOST_PAGES - lower
+    lower != 0 && upper != 0 && within(MOST_PAGES, lower, upper)
 }
 
 pub fn check<L: Memory, U: Memory>(lower: &L, upper: &U) -> Result<(), Refusal>
     ensures { result ≡ joinable (length (L.Memory.marks lower.now)) (length (U.Memory.marks upper.now)) }
 {
-    if join(lower.pages(), upper.pages()) {
-        Ok(())
-    } else {
-        Err(Refusal::BadSize)
-    }
+    join(lower.pages(), upper.pages())
+        .then_some(())
+        .ok_or(Refusal::BadSize)
 }
 
 #[derive(Drop)]
@@ -42,11 +41,7 @@ impl<L: Memory, U: Memory> Joined<L, U> {
         ensures { result ≡ seam_of (length (L.Memory.marks self.now.lower)) (length (U.Memory.marks self.now.upper)) }
     {
         let lower = self.lower.pages();
-        if join(lower, self.upper.pages()) {
-            Some(lower)
-        } else {
-            None
-        }
+        join(lower, self.upper.pages()).then_some(lower)
     }
 }
 
@@ -60,27 +55,21 @@ impl<L: Memory, U: Memory> Memory for Joined<L, U> {
     ghost paged = { λ m. joined_paged _ _ _ _ (L.Memory.paged m.lower) (U.Memory.paged m.upper) };
 
     fn pages(&self) -> u64 {
-        match self.seam() {
-            Some(seam) => seam + self.upper.pages(),
-            None => 0,
-        }
+        self.seam().map_or(0, |seam| seam + self.upper.pages())
     }
 
     fn marked(&self, page: u64) -> bool {
-        let Some(seam) = self.seam() else {
-            return false;
-        };
-        if page < seam {
-            self.lower.marked(page)
-        } else {
-            self.upper.marked(page - seam)
-        }
+        self.seam().is_some_and(|seam| {
+            if page < seam {
+                self.lower.marked(page)
+            } else {
+                self.upper.marked(page - seam)
+            }
+        })
     }
 
     fn read(&self, address: u64, width: u32) -> Result<u32, MemoryFault> {
-        let Some(seam) = self.seam() else {
-            return Err(MemoryFault::Outside);
-        };
+        let seam = self.seam().ok_or(MemoryFault::Outside)?;
         let split = seam * PAGE_BYTES;
         if address < split {
             self.lower.read(address, width)
@@ -90,9 +79,7 @@ impl<L: Memory, U: Memory> Memory for Joined<L, U> {
     }
 
     fn write(&mut self, address: u64, width: u32, value: u32) -> Result<(), MemoryFault> {
-        let Some(seam) = self.seam() else {
-            return Err(MemoryFault::Outside);
-        };
+        let seam = self.seam().ok_or(MemoryFault::Outside)?;
         let split = seam * PAGE_BYTES;
         if address < split {
             self.lower.write(address, width, value)

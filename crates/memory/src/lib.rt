@@ -3,6 +3,7 @@
 
 mod bytes;
 pub mod joined;
+mod lent;
 pub mod memory;
 pub mod ram;
 pub mod range;

@@ -18,15 +18,13 @@ impl From<MemoryFault> for Refused {
     ghost from_gives = { λ f r. r ≡ raised f };
 
     fn from(fault: MemoryFault) -> Refused {
-        match fault {
-            MemoryFault::Outside => Refused {
-                refusal: Refusal::OutsideMemory,
-                layer: Layer::Memory,
-            },
-            MemoryFault::ReadOnly => Refused {
-                refusal: Refusal::ReadOnlyPage,
-                layer: Layer::Memory,
-            },
+        let refusal = match fault {
+            MemoryFault::Outside => Refusal::OutsideMemory,
+            MemoryFault::ReadOnly => Refusal::ReadOnlyPage,
+        };
+        Refused {
+            refusal,
+            layer: Layer::Memory,
         }
     }
 }
@@ -48,6 +46,7 @@ pub trait Memory {
     fn marked(&self, page: u64) -> bool
         ensures { result ≡ slice_index_or (marks self.now) page false };
 
+    // The width is a plain number, so that a wrong one is refused here.
     fn read(&self, address: u64, width: u32) -> Result<u32, MemoryFault>
         ensures value { result ≡ reading (bytes self.now) width address }
         ensures small { IfOk result (λ v. v < 256 ^ width) };

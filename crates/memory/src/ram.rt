@@ -2,10 +2,9 @@
 ghost use Rattle.std.specs.Prelude.{◌≡◌, false, [], ◌∷◌};
 ghost use Rattle.memory.specs.Pages.{whole, unmarked, whole_paged};
 
-use super::PAGE_BYTES;
-use super::bytes::{fits, load, store};
+use super::bytes::store;
+use super::lent;
 use super::memory::{Memory, MemoryFault};
-use super::size::usable;
 
 #[derive(Drop)]
 pub struct Ram<'a> {
@@ -31,7 +30,7 @@ impl<'a> Memory for Ram<'a> {
     ghost paged = { λ m. whole_paged false m.bytes.now };
 
     fn pages(&self) -> u64 {
-        usable(self.bytes.len() as u64) / PAGE_BYTES
+        lent::pages(self.bytes)
     }
 
     fn marked(&self, _page: u64) -> bool {
@@ -39,19 +38,13 @@ impl<'a> Memory for Ram<'a> {
     }
 
     fn read(&self, address: u64, width: u32) -> Result<u32, MemoryFault> {
-        if fits(usable(self.bytes.len() as u64), address, width) {
-            Ok(load(self.bytes, address as usize, width))
-        } else {
-            Err(MemoryFault::Outside)
-        }
+        lent::read(self.bytes, address, width)
     }
 
+    // What can be read can be written.
     fn write(&mut self, address: u64, width: u32, value: u32) -> Result<(), MemoryFault> {
-        if fits(usable(self.bytes.len() as u64), address, width) {
-            store(self.bytes, address as usize, width, value);
-            Ok(())
-        } else {
-            Err(MemoryFault::Outside)
-        }
+        self.read(address, width)?;
+        store(self.bytes, address as usize, width, value);
+        Ok(())
     }
 }

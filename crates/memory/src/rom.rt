@@ -2,10 +2,8 @@
 ghost use Rattle.std.specs.Prelude.{◌≡◌, true, []};
 ghost use Rattle.memory.specs.Pages.{whole, all_marked, whole_paged};
 
-use super::PAGE_BYTES;
-use super::bytes::{fits, load};
+use super::lent;
 use super::memory::{Memory, MemoryFault};
-use super::size::usable;
 
 #[derive(Drop)]
 pub struct Rom<'a> {
@@ -31,26 +29,20 @@ impl<'a> Memory for Rom<'a> {
     ghost paged = { λ m. whole_paged true m.bytes.now };
 
     fn pages(&self) -> u64 {
-        usable(self.bytes.len() as u64) / PAGE_BYTES
+        lent::pages(self.bytes)
     }
 
     fn marked(&self, page: u64) -> bool {
-        page < usable(self.bytes.len() as u64) / PAGE_BYTES
+        page < lent::pages(self.bytes)
     }
 
     fn read(&self, address: u64, width: u32) -> Result<u32, MemoryFault> {
-        if fits(usable(self.bytes.len() as u64), address, width) {
-            Ok(load(self.bytes, address as usize, width))
-        } else {
-            Err(MemoryFault::Outside)
-        }
+        lent::read(self.bytes, address, width)
     }
 
+    // What can be read may not be written, and nothing else is there.
     fn write(&mut self, address: u64, width: u32, _value: u32) -> Result<(), MemoryFault> {
-        if fits(usable(self.bytes.len() as u64), address, width) {
-            Err(MemoryFault::ReadOnly)
-        } else {
-            Err(MemoryFault::Outside)
-        }
+        self.read(address, width)?;
+        Err(MemoryFault::ReadOnly)
     }
 }

@@ -1,30 +1,27 @@
 // How many bytes a memory may have.
-ghost use Rattle.std.specs.Prelude.{◌≡◌};
-ghost use Rattle.memory.specs.Pages.{well_sized, usable_of, sized};
+ghost use Rattle.std.specs.Prelude.{◌≡◌, ◌+◌, nat_le};
+ghost use Rattle.memory.specs.Pages.{well_sized, sized};
 
 use super::{MOST_PAGES, PAGE_BYTES};
 use refusal::Refusal;
 
+// Whether so many from `start` on lie within `size`; the sum is not made, so it cannot wrap.
+pub(crate) fn within(size: u64, start: u64, count: u64) -> bool
+    ensures { result ≡ nat_le (start + count) size }
+{
+    start <= size && count <= size - start
+}
+
 // Whole pages, at least one and at most 256.
-fn fit(length: u64) -> bool
+pub(crate) fn fit(length: u64) -> bool
     ensures { result ≡ well_sized length }
 {
     length != 0 && length % PAGE_BYTES == 0 && length <= MOST_PAGES * PAGE_BYTES
 }
 
-// How many of so many bytes a memory over them has: all, or none.
-pub(crate) fn usable(length: u64) -> u64
-    ensures { result ≡ usable_of length }
-{
-    if fit(length) { length } else { 0 }
-}
-
+// The answer alone is like that of the other checks.
 pub fn check(length: u64) -> Result<(), Refusal>
     ensures { result ≡ sized length }
 {
-    if fit(length) {
-        Ok(())
-    } else {
-        Err(Refusal::BadSize)
-    }
+    fit(length).then_some(()).ok_or(Refusal::BadSize)
 }

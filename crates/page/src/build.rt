@@ -1,8 +1,10 @@
-// The build that the layout program calls.
+// The build: an image, over the caller's memory, to a report.
 ghost use Rattle.std.specs.Prelude.{◌≡◌};
-ghost use Rattle.page.specs.Build.{refusal_number, ran_and_reported, driven, built};
-ghost use Rattle.page.specs.Printed.{Printed, Drove, DroveBytes, Builds, Short};
+ghost use Rattle.page.specs.Build.{ran_and_reported, driven, built};
+ghost use Rattle.page.specs.Printed.{Printed, Drove, DroveBytes, Built, Builds, Short};
 
+use super::mode::Mode;
+use super::refused::BuildRefused;
 use super::report::report as report_into;
 use decode_cache::cache::DecodeCache;
 use decode_cache::empty::EmptyCache;
@@ -15,24 +17,17 @@ use memory::ram::Ram;
 use memory::size::check;
 use quick_list::QuickList;
 use refusal::Refusal;
+use text::LEAST;
 use tlb::slot_list::SlotList;
 use tlb::table::Tlb;
 
-// The least buffer that a report may have.
-const LEAST: usize = 256;
-
 const SLOTS: usize = 16;
 
-const FULL: u32 = 0;
-
-// The highest mode.
-const FAST: u32 = 1;
-
-// How a build answers that it was refused: the number of the refusal, and the place of the record that it is of.
-fn refused(refusal: Refusal, place: u32) -> u64
-    ensures { result ≡ refusal_number refusal place }
-{
-    1_000 + refusal.number() as u64 + 65_536 * place as u64
+// What a machine is to run: so many steps of an image.
+#[derive(Clone, Copy)]
+struct Job<'a> {
+    steps: u32,
+    image: &'a [u8],
 }
 
 // A loaded machine runs and reports.
@@ -40,29 +35,24 @@ fn finish<M: Memory, T: Tlb, C: DecodeCache>(
     machine: &mut Machine<'_, M, T, C>,
     steps: u32,
     report: &mut [u8],
-) -> u64
+) -> Result<u64, BuildRefused>
     ensures { Printed M.Memory T.Tlb C.DecodeCache (ran_and_reported steps) machine.old report.old result machine.new report.new }
 {
+    // It cannot be refused: the steps were tested, and a machine that was only loaded is not halted.
     let _ = machine.run(steps);
-    match report_into(machine, report) {
-        Ok(length) => length,
-        Err(fault) => refused(fault.refusal, 0),
-    }
+    Ok(report_into(machine, report)?)
 }
 
 // A machine is loaded, and then runs and reports.
-fn print<M: Memory, T: Tlb, C: DecodeCache>(
+fn load_and_run<M: Memory, T: Tlb, C: DecodeCache>(
     machine: &mut Machine<'_, M, T, C>,
-    steps: u32,
-    image: &[u8],
+    job: Job,
     report: &mut [u8],
-) -> u64
-    ensures { Printed M.Memory T.Tlb C.DecodeCache (driven steps image.now) machine.old report.old result machine.new report.new }
+) -> Result<u64, BuildRefused>
+    ensures { Printed M.Memory T.Tlb C.DecodeCache (driven job.entry.steps job.entry.image.now) machine.old report.old result machine.new report.new }
 {
-    match load(machine, image) {
-        Ok(()) => finish(machine, steps, report),
-        Err(fault) => refused(fault.refused.refusal, fault.place),
-    }
+    load(machine, job.image)?;
+    finish(machine, job.steps, report)
 }
 
 // A fresh machine over the parts prints a page.
@@ -70,39 +60,57 @@ fn drive<M: Memory, T: Tlb, C: DecodeCache>(
     memory: &mut M,
     tlb: &mut T,
     cache: &mut C,
-    steps: u32,
-    image: &[u8],
+    job: Job,
     report: &mut [u8],
-) -> u64
-    ensures { Drove M.Memory T.Tlb steps image.now memory.old tlb.old report.old result memory.new report.new }
+) -> Result<u64, BuildRefused>
+    ensures { Drove M.Memory T.Tlb job.entry.steps job.entry.image.now memory.old tlb.old report.old result memory.new report.new }
 {
     let mut machine = Machine::new(memory, tlb, cache);
-    print(&mut machine, steps, image, report)
+    load_and_run(&mut machine, job, report)
 }
 
-// A full build: every translation is looked up in the records, and every instruction is read and decoded.
-fn build_full(steps: u32, image: &[u8], memory: &mut [u8], report: &mut [u8]) -> u64
-    ensures { DroveBytes steps image.now memory.old report.old result memory.new report.new }
+// A machine with this table and this cache prints a page over the caller's memory.
+fn drive_bytes<T: Tlb + Drop, C: DecodeCache + Drop>(
+    mut tlb: T,
+    mut cache: C,
+    job: Job,
+    memory: &mut [u8],
+    report: &mut [u8],
+) -> Result<u64, BuildRefused>
+    ensures { DroveBytes (T.Tlb.slots tlb) job.entry.steps job.entry.image.now memory.old report.old result memory.new report.new }
 {
     let mut ram = Ram::new(memory);
-    let mut records = [None; SLOTS];
-    let mut table = SlotList::new(&mut records);
-    let mut cache = EmptyCache;
-    drive(&mut ram, &mut table, &mut cache, steps, image, report)
+    drive(&mut ram, &mut tlb, &mut cache, job, report)
 }
 
-// A fast build: translations and instructions used before are found in lines.
-fn build_fast(steps: u32, image: &[u8], memory: &mut [u8], report: &mut [u8]) -> u64
-    ensures { DroveBytes steps image.now memory.old report.old result memory.new report.new }
+// Builds a page from an image over the caller's memory; answers the length of the report, or why there is none.
+pub fn build(
+    mode: u32,
+    steps: u32,
+    image: &[u8],
+    memory: &mut [u8],
+    report: &mut [u8],
+) -> Result<u64, BuildRefused>
+    ensures { Built mode steps image.now memory.old report.old result memory.new report.new }
 {
-    let mut ram = Ram::new(memory);
+    let mode = Mode::try_from(mode)?;
+    check(memory.len() as u64)?;
+    if report.len() < LEAST {
+        return Err(Refusal::SmallBuffer.into());
+    }
+    if steps > MOST_STEPS {
+        return Err(Refusal::TooManySteps.into());
+    }
     let mut records = [None; SLOTS];
-    let mut table = QuickList::new(SlotList::new(&mut records));
-    let mut cache = LineCache::new();
-    drive(&mut ram, &mut table, &mut cache, steps, image, report)
+    let slots = SlotList::new(&mut records);
+    let job = Job { steps, image };
+    match mode {
+        Mode::Full => drive_bytes(slots, EmptyCache, job, memory, report),
+        Mode::Fast => drive_bytes(QuickList::new(slots), LineCache::new(), job, memory, report),
+    }
 }
 
-// Builds a page from an image over the caller's memory; answers the length of the report, or the refusal.
+// The same as a program outside calls it: a refusal is a number too.
 pub fn vcpu32_build(
     mode: u32,
     steps: u32,
@@ -116,20 +124,5 @@ pub fn vcpu32_build(
     ensures short { Short result }
     ensures builds { Builds mode steps image.now memory.old report.old result memory.new report.new }
 {
-    if mode > FAST {
-        return refused(Refusal::UnknownMode, 0);
-    }
-    if let Err(refusal) = check(memory.len() as u64) {
-        return refused(refusal, 0);
-    }
-    if report.len() < LEAST {
-        return refused(Refusal::SmallBuffer, 0);
-    }
-    if steps > MOST_STEPS {
-        return refused(Refusal::TooManySteps, 0);
-    }
-    match mode {
-        FULL => build_full(steps, image, memory, report),
-        _ => build_fast(steps, image, memory, report),
-    }
+    build(mode, steps, image, memory, report).unwrap_or_else(|refused| refused.number())
 }

@@ -3,11 +3,8 @@ ghost use Rattle.std.specs.Prelude.{◌≡◌, ◌<◌};
 ghost use Rattle.page.specs.Build.{built};
 ghost use Rattle.page.specs.Print.{printed_length, printed_text};
 
-use super::build::vcpu32_build;
+use super::build::build;
 use text::notice;
-
-// An answer from here on is a refusal.
-const REFUSED: u64 = 1_000;
 
 // The page of an image, or the notice of its refusal, at the start of the text; answers its length.
 pub fn print(mode: u32, steps: u32, image: &[u8], memory: &mut [u8], text: &mut [u8; 256]) -> usize
@@ -16,12 +13,8 @@ pub fn print(mode: u32, steps: u32, image: &[u8], memory: &mut [u8], text: &mut 
     ensures text { text.new ≡ printed_text (built mode steps image.now memory.old text.old) }
     ensures short { result < 256 }
 {
-    let answer = vcpu32_build(mode, steps, image, memory, text);
-    if answer < REFUSED {
-        return answer as usize;
-    }
-    match notice(answer, text) {
+    match build(mode, steps, image, memory, text) {
         Ok(length) => length as usize,
-        Err(_) => 0,
+        Err(refused) => notice(refused.number(), text).unwrap_or(0) as usize,
     }
 }

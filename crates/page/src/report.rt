@@ -7,7 +7,7 @@ use decode_cache::cache::DecodeCache;
 use machine::machine::Machine;
 use memory::memory::Memory;
 use refusal::{Layer, Refused};
-use text::write_report;
+use text::Report;
 use tlb::table::Tlb;
 
 // Writes how many steps were made, how they ended, and every general register that is not zero; answers the text's length.
@@ -20,16 +20,13 @@ pub fn report<M: Memory, T: Tlb, C: DecodeCache>(
     ensures short { IfOk result (λ n. n < 256) }
 {
     let registers = machine.registers();
-    match write_report(
-        registers.steps(),
-        registers.halted(),
-        registers.generals(),
-        buffer,
-    ) {
-        Ok(length) => Ok(length),
-        Err(refusal) => Err(Refused {
-            refusal,
-            layer: Layer::Machine,
-        }),
-    }
+    let report = Report {
+        steps: registers.steps(),
+        halted: registers.halted(),
+        general: registers.generals(),
+    };
+    report.write(buffer).map_err(|refusal| Refused {
+        refusal,
+        layer: Layer::Machine,
+    })
 }

@@ -5,7 +5,7 @@ ghost use Rattle.std.specs.Prelude.{◌≡◌};
 ghost use Rattle.page.specs.Build.{built};
 ghost use Rattle.page.specs.Printed.{Builds, Short};
 
-// A slice crosses as a pointer and then its length.
+// The build of `page` again, since no crate may stand on a static library. A slice crosses as a pointer and then its length.
 #[unsafe(no_mangle)]
 pub extern "C" fn vcpu32_build(
     mode: u32,

@@ -1,73 +1,63 @@
 -- The lines of a quick list follow the table below.
-use Rattle.std.proofs.Common.{◌≡◌, ℕ, zero, suc, ◌<◌, List, length, get_or, set, replicate, Some, None, Ok, Option, sym, refl, ap, ◌∙◌, subst, ⊎_elim, arith}
-use Rattle.std.proofs.lemmas.List.{get_or-set_same, get_or-set_other}
-use Rattle.std.proofs.lemmas.Bool.{cases_eq, ne_eqb, eq-eqb, cond-true, cond-false}
+use Rattle.std.proofs.Common.{◌≡◌, ℕ, ◌^◌, ◌<◌, ◌≢◌, ◌+◌, ◌%◌, List, get_or, Some, None, Ok, sym, refl, ap, ap₂, ◌∙◌, arith}
+use Rattle.std.proofs.lemmas.Bool.{eq-eqb, ne_eqb, cond-true, cond-false}
+use Rattle.std.proofs.lemmas.Grind.{common_steps}
+use Rattle.tlb.specs.declared.info.Info.{Info}
+use Rattle.tlb.specs.declared.page.Page.{Page}
 use Rattle.tlb.specs.declared.translation.Translation.{Translation}
 use Rattle.tlb.specs.Table.{key_of, key, found, inserting, inserted, without, Rising}
 use Rattle.tlb.proofs.Laws.{found_inserted, found_removed}
-use Rattle.quick_list.specs.Lines.{line_at, Rightly, Agree, Holding}
+use Rattle.line_table.specs.declared.Lines.{Lines}
+use Rattle.line_table.specs.Held.{Fewer, with_one, without_one, nothing}
+use Rattle.line_table.proofs.Standing.{stands_whole}
+use Rattle.quick_list.specs.declared.page_key.PageKey.{PageKey}
+use Rattle.quick_list.specs.Lines.{same, whole, in_lines, kept, Agree, Holding}
 
-all_empty : (n i : ℕ) (t : Translation) → get_or (replicate n None) i None ≡ Some t → ⊥
-all_empty zero i t e = let z : ◌≡◌ {A = ℕ} 0 1 = cc in omega arith
-all_empty (suc n) zero t e = let z : ◌≡◌ {A = ℕ} 0 1 = cc in omega arith
-all_empty (suc n) (suc i) t e = all_empty n i t e
+abbrev page_of : ℕ → ℕ → Page
+page_of s n = record { segment = s; number = n }
 
--- empty lines agree with every table
-pub agree_empty : (ts : List Translation) → Agree ts (replicate 16 None)
+abbrev key_at : Page → PageKey
+key_at page = record { 0 = page }
+
+-- lines that hold nothing agree with every table
+pub agree_empty : (ts : List Translation) (ls : Lines PageKey Info 16) → Fewer (in_lines ls) nothing → Agree ts ls
 unfolding Agree
-agree_empty ts i t e = absurd (all_empty 16 i t e)
+agree_empty ts ls none page info real has = let e = none (key_at page) info has in cc
 
--- what a table has for the keys of other lines than k
-abbrev SameBut : ℕ → List Translation → List Translation → Type 0
-SameBut k ts us = (t : Translation) → (line_at (key t) ≡ k → ⊥) → found us t.segment t.page ≡ found ts t.segment t.page
+-- a page with a number of 32 bits has a key of its own
+own_key : (p q : Page) → p.number < 2 ^ 32 → q.number < 2 ^ 32 → p ≢ q → key_of p.segment p.number ≢ key_of q.segment q.number
+own_key p q real-p real-q ne e = ne (ap₂ page_of (omega arith) (omega arith))
 
-module _ (ts : List Translation) (ls : List (Option Translation)) (long : length ls ≡ 16) (old : Agree ts ls) (k : ℕ) (here : k < 16) where
-  -- one line is set, and the keys of other lines have what they had
-  agree_set : (us : List Translation) (x : Option Translation) → ((t : Translation) → x ≡ Some t → Rightly us k t) → SameBut k ts us → Agree us (set ls k x)
+-- two tables have one info for each page but one
+abbrev pub SameElsewhere : Page → List Translation → List Translation → Type 0
+SameElsewhere at ts us = (page : Page) → page.number < 2 ^ 32 → page ≢ at → found us page.segment page.number ≡ found ts page.segment page.number
+
+module _ (ts us : List Translation) (old new : Lines PageKey Info 16) (at : Page) (agree : Agree ts old) (others : SameElsewhere at ts us) where
+  pub agree_put : (info : Info) → found us at.segment at.number ≡ Some info → Fewer (in_lines new) (with_one same (in_lines old) (key_at at) info) → Agree us new
   unfolding Agree
-  agree_set us x new others i t e =
-      ⊎_elim
-      (λ same.
-      let in_x : x ≡ Some t = sym (get_or-set_same ls k x None (omega arith)) ∙ subst (λ j. get_or (set ls k x) j None ≡ Some t) same e in
-      subst (λ j. Rightly us j t) (sym same) (new t in_x))
-      (λ other.
-      let was = old i t (sym (get_or-set_other ls k i x None other) ∙ e) in
-      record { entered = others t (λ h. other (sym was.placed ∙ h)) ∙ was.entered; placed = was.placed })
-      (cases_eq i k)
+  agree_put info own fewer page other real has =
+      let h = fewer (key_at page) other has in
+      grind (arith, common_steps, h, own, others page real, agree page other real, whole (key_at page) (key_at at), λ (e : page ≡ at). ap key_at e)
 
-  -- a line is filled with what the table has
-  pub agree_filled : (t : Translation) → line_at (key t) ≡ k → found ts t.segment t.page ≡ Some t.info → Agree ts (set ls k (Some t))
-  agree_filled t place has =
-      agree_set ts (Some t) (λ u e. let is : t ≡ u = cc in subst (Rightly ts k) is (record { entered = has; placed = place })) (λ u h. refl)
+  pub agree_removed : Fewer (in_lines new) (without_one same (in_lines old) (key_at at)) → Agree us new
+  unfolding Agree
+  agree_removed fewer page info real has =
+      let h = fewer (key_at page) info has in
+      grind (arith, common_steps, h, others page real, agree page info real, whole (key_at page) (key_at at), λ (e : page ≡ at). ap key_at e)
 
-  -- the table has a new translation, and so has its line
-  pub agree_inserted : (n : ℕ) (t : Translation) → line_at (key t) ≡ k → inserting ts n t ≡ Ok tt → Agree (inserted ts n t) (set ls k (Some t))
-  agree_inserted n t place ok =
-      let finds = found_inserted ts n t in
-      agree_set (inserted ts n t) (Some t)
-      (λ u e.
-      let is : t ≡ u = cc in
-      let own : found (inserted ts n t) t.segment t.page ≡ Some t.info = finds t.segment t.page ok ∙ cond-true _ _ _ (eq-eqb (key t) (key t) refl) in
-      subst (Rightly (inserted ts n t) k) is (record { entered = own; placed = place }))
-      (λ u other. finds u.segment u.page ok ∙ cond-false _ _ _ (ne_eqb (key t) (key u) (λ e. other (sym (ap line_at e) ∙ place))))
+-- an insert and a remove leave every other page's info
+pub others_inserted : (ts : List Translation) (n : ℕ) (t : Translation) → t.page.number < 2 ^ 32 → inserting ts n t ≡ Ok tt → SameElsewhere t.page ts (inserted ts n t)
+others_inserted ts n t real ok page real-page other =
+    found_inserted ts n t page.segment page.number ok ∙ cond-false _ _ _ (ne_eqb _ _ (λ e. own_key page t.page real-page real other (sym e)))
 
-  -- the table has lost a translation, and its line is empty
-  pub agree_removed : (segment page : ℕ) → line_at (key_of segment page) ≡ k → Rising ts → Agree (without segment page ts) (set ls k None)
-  agree_removed segment page place rising =
-      agree_set (without segment page ts) None
-      (λ u e. let z : ◌≡◌ {A = ℕ} 0 1 = cc in absurd (omega arith))
-      (λ u other. found_removed ts segment page u.segment u.page rising ∙ cond-false _ _ _ (ne_eqb (key_of segment page) (key u) (λ e. other (sym (ap line_at e) ∙ place))))
+pub own_inserted : (ts : List Translation) (n : ℕ) (t : Translation) → inserting ts n t ≡ Ok tt → found (inserted ts n t) t.page.segment t.page.number ≡ Some t.info
+own_inserted ts n t ok = found_inserted ts n t t.page.segment t.page.number ok ∙ cond-true _ _ _ (eq-eqb (key t) (key t) refl)
 
--- a line that is for a page has its translation
-pub line_right : (ts : List Translation) (ls : List (Option Translation)) (i : ℕ) (t : Translation) (segment page : ℕ) → Agree ts ls → get_or ls i None ≡ Some t → t.segment ≡ segment → t.page ≡ page → Some t.info ≡ found ts segment page
-unfolding Agree
-line_right ts ls i t segment page agree there s p = sym (agree i t there).entered ∙ ap (λ n. found ts n t.page) s ∙ ap (found ts segment) p
+pub others_removed : (ts : List Translation) (at : Page) → at.number < 2 ^ 32 → Rising ts → SameElsewhere at ts (without at.segment at.number ts)
+others_removed ts at real rising page real-page other =
+    found_removed ts at.segment at.number page.segment page.number rising ∙ cond-false _ _ _ (ne_eqb _ _ (λ e. own_key page at real-page real other (sym e)))
 
--- and it is the line that holds the answer
-pub line_holds : (ls : List (Option Translation)) (i : ℕ) (t : Translation) (segment page : ℕ) → i < 16 → get_or ls i None ≡ Some t → t.segment ≡ segment → t.page ≡ page → Holding ls (record { segment = segment; page = page; info = t.info })
-line_holds ls i t segment page within there s p =
-    record {
-      line = i;
-      within = within;
-      there = there ∙ ap (λ n. Some (record { segment = n; page = t.page; info = t.info })) s ∙ ap (λ n. Some (record { segment = segment; page = n; info = t.info })) p;
-    }
+-- what the lines have for a page stands in one of them
+pub holding : (ls : Lines PageKey Info 16) (page : Page) (info : Info) → kept ls page ≡ Some info → Holding ls page info
+holding ls page info has =
+    record { line = (page.segment + page.number) % 16; within = omega arith; there = stands_whole same whole (get_or ls _ None) (key_at page) info has }

@@ -2,25 +2,24 @@
 #![tactic(auto)]
 
 ghost use Rattle.std.specs.Prelude.{◌≡◌, replicate, None};
-ghost use Rattle.tlb.specs.Table.{found, key_of};
-ghost use Rattle.quick_list.specs.Lines.{line_at, Agreeing, Lined};
+ghost use Rattle.tlb.specs.Table.{found};
+ghost use Rattle.quick_list.specs.Lines.{Agreeing, Lined};
 
+mod page_key;
+
+use line_table::Lines;
+use page_key::PageKey;
 use tlb::info::Info;
+use tlb::page::Page;
 use tlb::table::{TableFault, Tlb};
 use tlb::translation::Translation;
 
-// The line that a page's translation may stand in: segment and page fold to one of 16.
-fn line_of(segment: u16, page: u32) -> usize
-    ensures { result ≡ line_at (key_of segment page) }
-{
-    (u32::from(segment) + page % 16) as usize % 16
-}
-
-// The lines are no part of what it means: that is what the table below means.
+// The lines are no part of what it means: that is what the table below means. That they agree is a premise and no invariant,
+// since the table below may not agree with itself before it is cleared.
 #[derive(Drop)]
 pub struct QuickList<T: Tlb> {
     table: T,
-    lines: [Option<Translation>; 16],
+    lines: Lines<PageKey, Info, 16>,
 }
 
 impl<T: Tlb> QuickList<T> {
@@ -31,7 +30,7 @@ impl<T: Tlb> QuickList<T> {
     {
         QuickList {
             table,
-            lines: [None; 16],
+            lines: Lines::new(),
         }
     }
 }
@@ -48,46 +47,36 @@ impl<T: Tlb> Tlb for QuickList<T> {
     ghost lawful = { λ q s. T.Tlb.lawful q.table s.table };
 
     // A line that answers spares the table; after an answer some line holds it.
-    fn find(&mut self, segment: u16, page: u32) -> Option<Info>
-        ensures lined { Lined self.new.lines segment page result }
-        ensures answer { Agreeing T.Tlb self.old → result ≡ found (T.Tlb.translations self.old.table) segment page }
+    fn find(&mut self, page: Page) -> Option<Info>
+        ensures lined { Lined self.new.lines page result }
+        ensures answer { Agreeing T.Tlb self.old → result ≡ found (T.Tlb.translations self.old.table) page.segment page.number }
         ensures translations { Agreeing T.Tlb self.old → T.Tlb.translations self.new.table ≡ T.Tlb.translations self.old.table }
         ensures slots { T.Tlb.slots self.new.table ≡ T.Tlb.slots self.old.table }
         ensures sound { Agreeing T.Tlb self.old → Agreeing T.Tlb self.new }
         ensures roots { T.Tlb.roots self.new.table ≡ T.Tlb.roots self.old.table }
     {
-        let i = line_of(segment, page);
-        let line = &self.lines[i];
-        if let Some(known) = line {
-            if known.is_for(segment, page) {
-                return Some(known.info);
-            }
+        if let Some(info) = self.lines.find(PageKey(page)) {
+            return Some(info);
         }
-        let Some(info) = self.table.find(segment, page) else {
-            return None;
-        };
-        self.lines[i] = Some(Translation {
-            segment,
-            page,
-            info,
-        });
+        let info = self.table.find(page)?;
+        self.lines.put(PageKey(page), info);
         Some(info)
     }
 
     // What was put in is likely to be asked for next.
     fn insert(&mut self, translation: Translation) -> Result<(), TableFault> {
         self.table.insert(translation)?;
-        self.lines[line_of(translation.segment, translation.page)] = Some(translation);
+        self.lines.put(PageKey(translation.page), translation.info);
         Ok(())
     }
 
-    fn remove(&mut self, segment: u16, page: u32) {
-        self.table.remove(segment, page);
-        self.lines[line_of(segment, page)] = None;
+    fn remove(&mut self, page: Page) {
+        self.table.remove(page);
+        self.lines.remove(PageKey(page));
     }
 
     fn clear(&mut self) {
         self.table.clear();
-        self.lines = [None; 16];
+        self.lines.clear();
     }
 }

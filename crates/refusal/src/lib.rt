@@ -7,22 +7,22 @@ ghost use Rattle.refusal.specs.Numbers.{number_of};
 // Every refusal there is; `number` is how the outside knows it.
 #[derive(Clone, Copy, PartialEq, Eq, Debug, Drop)]
 pub enum Refusal {
-    UnknownMode,
-    BadSize,
-    SmallBuffer,
-    Halted,
-    TooManySteps,
-    NoSuchRegister,
-    BadValue,
-    NoSuchLine,
-    OutsideMemory,
-    ReadOnlyPage,
-    BadTranslation,
-    NoFreeSlot,
-    BadImage,
-    CutRecord,
-    UnknownRecord,
-    BadEnd,
+    UnknownMode = 1,
+    BadSize = 2,
+    SmallBuffer = 3,
+    Halted = 4,
+    TooManySteps = 5,
+    NoSuchRegister = 6,
+    BadValue = 7,
+    NoSuchLine = 8,
+    OutsideMemory = 9,
+    ReadOnlyPage = 10,
+    BadTranslation = 11,
+    NoFreeSlot = 12,
+    BadImage = 13,
+    CutRecord = 14,
+    UnknownRecord = 15,
+    BadEnd = 16,
 }
 
 // The layer in which a refusal arose.
@@ -45,23 +45,6 @@ impl Refusal {
     pub fn number(self) -> u32
         ensures { result ≡ number_of self }
     {
-        match self {
-            Refusal::UnknownMode => 1,
-            Refusal::BadSize => 2,
-            Refusal::SmallBuffer => 3,
-            Refusal::Halted => 4,
-            Refusal::TooManySteps => 5,
-            Refusal::NoSuchRegister => 6,
-            Refusal::BadValue => 7,
-            Refusal::NoSuchLine => 8,
-            Refusal::OutsideMemory => 9,
-            Refusal::ReadOnlyPage => 10,
-            Refusal::BadTranslation => 11,
-            Refusal::NoFreeSlot => 12,
-            Refusal::BadImage => 13,
-            Refusal::CutRecord => 14,
-            Refusal::UnknownRecord => 15,
-            Refusal::BadEnd => 16,
-        }
+        self as u32
     }
 }

@@ -1,3 +1,3 @@
-pub mod Equal
 pub mod Lines
 pub mod Tried
+pub mod Pairs

@@ -8,32 +8,32 @@ use Rattle.registers.specs.Ranges.{gr_put, zero_kept, cr_put, narrow_kept, words
 -- ---- one field changed
 
 abbrev pub with_gr : (s : Registers) (g : List ℕ) → slice_index g 0 ≡ 0 → Registers
-with_gr s g z = record { gr = g; sr = s.sr; cr = s.cr; segment = s.segment; offset = s.offset; status = s.status; pending = s.pending; halted = s.halted; steps = s.steps; zero = z; narrow = s.narrow; aligned = s.aligned }
+with_gr s g z = record s { gr = g; zero = z }
 
 abbrev pub with_sr : Registers → List ℕ → Registers
-with_sr s g = record { gr = s.gr; sr = g; cr = s.cr; segment = s.segment; offset = s.offset; status = s.status; pending = s.pending; halted = s.halted; steps = s.steps; zero = s.zero; narrow = s.narrow; aligned = s.aligned }
+with_sr s g = record s { sr = g }
 
 abbrev pub with_cr : (s : Registers) (c : List ℕ) → slice_index c 2 % 32 ≡ slice_index c 2 → Registers
-with_cr s c n = record { gr = s.gr; sr = s.sr; cr = c; segment = s.segment; offset = s.offset; status = s.status; pending = s.pending; halted = s.halted; steps = s.steps; zero = s.zero; narrow = n; aligned = s.aligned }
+with_cr s c n = record s { cr = c; narrow = n }
 
 abbrev pub with_segment : Registers → ℕ → Registers
-with_segment s n = record { gr = s.gr; sr = s.sr; cr = s.cr; segment = n; offset = s.offset; status = s.status; pending = s.pending; halted = s.halted; steps = s.steps; zero = s.zero; narrow = s.narrow; aligned = s.aligned }
+with_segment s n = record s { segment = n }
 
 -- the offset loses its two lowest bits
 abbrev pub with_offset : Registers → ℕ → Registers
-with_offset s n = record { gr = s.gr; sr = s.sr; cr = s.cr; segment = s.segment; offset = n / 4 * 4; status = s.status; pending = s.pending; halted = s.halted; steps = s.steps; zero = s.zero; narrow = s.narrow; aligned = words_aligned n }
+with_offset s n = record s { offset = n / 4 * 4; aligned = words_aligned n }
 
 abbrev pub with_status : Registers → Status → Registers
-with_status s t = record { gr = s.gr; sr = s.sr; cr = s.cr; segment = s.segment; offset = s.offset; status = t; pending = s.pending; halted = s.halted; steps = s.steps; zero = s.zero; narrow = s.narrow; aligned = s.aligned }
+with_status s t = record s { status = t }
 
 abbrev pub with_pending : Registers → ℕ → Registers
-with_pending s n = record { gr = s.gr; sr = s.sr; cr = s.cr; segment = s.segment; offset = s.offset; status = s.status; pending = n; halted = s.halted; steps = s.steps; zero = s.zero; narrow = s.narrow; aligned = s.aligned }
+with_pending s n = record s { pending = n }
 
 abbrev pub with_halted : Registers → Bool → Registers
-with_halted s b = record { gr = s.gr; sr = s.sr; cr = s.cr; segment = s.segment; offset = s.offset; status = s.status; pending = s.pending; halted = b; steps = s.steps; zero = s.zero; narrow = s.narrow; aligned = s.aligned }
+with_halted s b = record s { halted = b }
 
 abbrev pub with_steps : Registers → ℕ → Registers
-with_steps s n = record { gr = s.gr; sr = s.sr; cr = s.cr; segment = s.segment; offset = s.offset; status = s.status; pending = s.pending; halted = s.halted; steps = n; zero = s.zero; narrow = s.narrow; aligned = s.aligned }
+with_steps s n = record s { steps = n }
 
 -- ---- registers by number
 

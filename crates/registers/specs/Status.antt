@@ -20,7 +20,7 @@ abbrev pub clear_status : Status
 clear_status = record { user = false; code = false; carry = false; «data» = false; protect = false; interrupts = false }
 
 abbrev pub with_user : Status → Bool → Status
-with_user t x = record { user = x; code = t.code; carry = t.carry; «data» = t.«data»; protect = t.protect; interrupts = t.interrupts }
+with_user t x = record t { user = x }
 
 abbrev pub with_carry : Status → Bool → Status
-with_carry t k = record { user = t.user; code = t.code; carry = k; «data» = t.«data»; protect = t.protect; interrupts = t.interrupts }
+with_carry t k = record t { carry = k }

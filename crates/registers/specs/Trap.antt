@@ -27,17 +27,11 @@ saved s c = slice_set (slice_set (slice_set (slice_set (slice_set s.cr 17 (statu
 -- goes on in the handler, 32 bytes for each trap number above CR16
 abbrev pub trapped : Registers → Cause → Registers
 trapped s c =
-    record {
-      gr = s.gr;
-      sr = s.sr;
+    record s {
       cr = saved s c;
       segment = 0;
       offset = (slice_index s.cr 16 + trap_number c.trap * 32) % 2 ^ 32 / 4 * 4;
       status = clear_status;
-      pending = s.pending;
-      halted = s.halted;
-      steps = s.steps;
-      zero = s.zero;
       narrow = narrow_saved s.cr _ _ _ _ _ s.narrow;
       aligned = words_aligned ((slice_index s.cr 16 + trap_number c.trap * 32) % 2 ^ 32);
     }

@@ -1,23 +1,20 @@
 // What each instruction does to the registers.
-ghost use Rattle.std.specs.Prelude.{◌≡◌, true};
-ghost use Rattle.isa.specs.Arithmetic.{sum_of, difference_of};
+ghost use Rattle.std.specs.Prelude.{◌≡◌, ℕ, true};
+ghost use Rattle.isa.specs.Arithmetic.{inverted_if};
 ghost use Rattle.registers.specs.Access.{next, with_halted};
 ghost use Rattle.registers.specs.Tried.{ends, says};
 ghost use Rattle.registers.specs.Finish.{first as first_of, second as second_of, put_next, summed, linked, branched, broken, finished, privileged as is_privileged};
 
 use super::registers::Registers;
 use super::trap::Trap;
-use isa::arithmetic::{Sum, add, bit, invert, subtract};
+use isa::arithmetic::{Sum, add, invert, sub};
 use isa::instruction::{Instruction, Operand};
 
 // Whether only the privileged level may use an instruction.
 pub fn privileged(instruction: &Instruction) -> bool
     ensures { result ≡ is_privileged instruction.now }
 {
-    match instruction {
-        Instruction::Diag => true,
-        _ => false,
-    }
+    matches!(instruction, Instruction::Diag)
 }
 
 impl Registers {
@@ -32,24 +29,20 @@ impl Registers {
             Instruction::Ldil { r, v } => self.put_next(r, v),
             Instruction::Addil { r, v } => self.put_next(1, self.general(r).wrapping_add(v)),
             Instruction::Ldo { r, b, o } => self.put_next(r, self.general(b).wrapping_add(o)),
-            Instruction::Add { r, l, o, x } => return self.sum(r, l, o, self.added(r, x, false)),
-            Instruction::Adc { r, l, o, x } => return self.sum(r, l, o, self.added(r, x, k)),
-            Instruction::Sub { r, l, o, x } => return self.sum(r, l, o, self.taken(r, x, false)),
-            Instruction::Sbc { r, l, o, x } => return self.sum(r, l, o, self.taken(r, x, k)),
-            Instruction::And { r, n, c, x } => {
-                self.put_next(r, invert(n, self.first(r, x) & invert(c, self.second(x))));
-            }
-            Instruction::Or { r, n, c, x } => {
-                self.put_next(r, invert(n, self.first(r, x) | invert(c, self.second(x))));
-            }
-            Instruction::Xor { r, n, c, x } => {
-                self.put_next(r, invert(n, self.first(r, x) ^ invert(c, self.second(x))));
-            }
+            Instruction::Add { r, l, o, x } => return self.sum(r, l, o, self.by(add, r, x, false)),
+            Instruction::Adc { r, l, o, x } => return self.sum(r, l, o, self.by(add, r, x, k)),
+            Instruction::Sub { r, l, o, x } => return self.sum(r, l, o, self.by(sub, r, x, false)),
+            Instruction::Sbc { r, l, o, x } => return self.sum(r, l, o, self.by(sub, r, x, k)),
+            Instruction::And { r, n, c, x } => self.logic(r, n, c, x, |p, q| p & q),
+            Instruction::Or { r, n, c, x } => self.logic(r, n, c, x, |p, q| p | q),
+            Instruction::Xor { r, n, c, x } => self.logic(r, n, c, x, |p, q| p ^ q),
             Instruction::Cmp { r, when, x } => {
-                self.put_next(r, bit(when.holds_signed(self.first(r, x), self.second(x))));
+                let (p, q) = self.numbers(r, x);
+                self.put_next(r, u32::from(when.holds_signed(p, q)));
             }
             Instruction::Cmpu { r, when, x } => {
-                self.put_next(r, bit(when.holds(self.first(r, x), self.second(x))));
+                let (p, q) = self.numbers(r, x);
+                self.put_next(r, u32::from(when.holds(p, q)));
             }
             Instruction::B { r, o } => self.branch_and_link(r, o),
             Instruction::Cbr { when, a, b, o } => {
@@ -63,18 +56,33 @@ impl Registers {
         Ok(())
     }
 
-    // The sum of an instruction's two numbers.
-    fn added(&self, r: u8, operand: Operand, carry: bool) -> Sum
-        ensures { result ≡ sum_of (first_of self.now r operand) (second_of self.now operand) carry }
+    // The two numbers that an instruction with an operand works on.
+    fn numbers(&self, r: u8, x: Operand) -> (u32, u32)
+        ensures first { result.0 ≡ first_of self.now r x }
+        ensures second { result.1 ≡ second_of self.now x }
     {
-        add(self.first(r, operand), self.second(operand), carry)
+        match x {
+            Operand::Immediate(value) => (self.general(r), value),
+            Operand::Registers { a, b } => (self.general(a), self.general(b)),
+        }
     }
 
-    // Their difference.
-    fn taken(&self, r: u8, operand: Operand, borrow: bool) -> Sum
-        ensures { result ≡ difference_of (first_of self.now r operand) (second_of self.now operand) borrow }
+    // What an addition or a subtraction makes of the two.
+    fn by<F: FnOnce(u32, u32, bool) -> Sum>(&self, op: F, r: u8, x: Operand, carry: bool) -> Sum
+        requires { F.IsAlwaysCallable op }
+        ensures { F.post op (first_of self.now r x) (second_of self.now x) carry result }
     {
-        subtract(self.first(r, operand), self.second(operand), borrow)
+        let (p, q) = self.numbers(r, x);
+        op(p, q, carry)
+    }
+
+    // A logic operation on the two: C inverts the second, and N what comes out.
+    fn logic<F: FnOnce(u32, u32) -> u32>(&mut self, r: u8, n: bool, c: bool, x: Operand, op: F)
+        requires { F.IsAlwaysCallable op }
+        ensures { (out : ℕ) × F.post op (first_of self.old r x) (inverted_if c (second_of self.old x)) out × (self.new ≡ put_next self.old r (inverted_if n out)) }
+    {
+        let (p, q) = self.numbers(r, x);
+        self.put_next(r, invert(n, op(p, invert(c, q))));
     }
 
     fn diag(&mut self)
@@ -94,24 +102,6 @@ impl Registers {
         }
         self.advance();
         Ok(())
-    }
-
-    fn first(&self, r: u8, operand: Operand) -> u32
-        ensures { result ≡ first_of self.now r operand }
-    {
-        match operand {
-            Operand::Immediate(_) => self.general(r),
-            Operand::Registers { a, .. } => self.general(a),
-        }
-    }
-
-    fn second(&self, operand: Operand) -> u32
-        ensures { result ≡ second_of self.now operand }
-    {
-        match operand {
-            Operand::Immediate(value) => value,
-            Operand::Registers { b, .. } => self.general(b),
-        }
     }
 
     fn put_next(&mut self, r: u8, value: u32)

@@ -9,7 +9,7 @@ use super::registers::Registers;
 use super::status::Status;
 use refusal::{Layer, Refusal, Refused};
 
-#[derive(Clone, Copy, Drop)]
+#[derive(Clone, Copy, PartialEq, Eq, Debug, Drop)]
 pub enum Register {
     General(u8),
     Space(u8),
@@ -20,7 +20,7 @@ pub enum Register {
     Pending,
 }
 
-#[derive(Clone, Copy, Drop)]
+#[derive(Clone, Copy, PartialEq, Eq, Debug, Drop)]
 pub enum RegisterFault {
     NoSuchRegister,
     BadValue,
@@ -31,20 +31,19 @@ impl From<RegisterFault> for Refused {
     ghost from_gives = { λ f r. r ≡ raised f };
 
     fn from(fault: RegisterFault) -> Refused {
-        match fault {
-            RegisterFault::NoSuchRegister => Refused {
-                refusal: Refusal::NoSuchRegister,
-                layer: Layer::Machine,
-            },
-            RegisterFault::BadValue => Refused {
-                refusal: Refusal::BadValue,
-                layer: Layer::Machine,
-            },
+        let refusal = match fault {
+            RegisterFault::NoSuchRegister => Refusal::NoSuchRegister,
+            RegisterFault::BadValue => Refusal::BadValue,
+        };
+        Refused {
+            refusal,
+            layer: Layer::Machine,
         }
     }
 }
 
 impl Register {
+    // By plain numbers, as calls have them; None says all that can be wrong, so no TryFrom.
     pub fn named(class: u32, number: u32) -> Option<Register>
         ensures { result ≡ register_of class number }
     {
@@ -64,7 +63,7 @@ impl Register {
         match self {
             Register::Space(_) | Register::Segment => value < 0x1_0000,
             Register::Control(2) => value < 32,
-            Register::StatusWord => Status::of(value).word() == value,
+            Register::StatusWord => u32::from(Status::from(value)) == value,
             _ => true,
         }
     }
@@ -88,9 +87,7 @@ impl Registers {
         ensures after { self.new ≡ ends self.old (given class number value self.old) }
         ensures value { result ≡ says (given class number value self.old) }
     {
-        let Some(register) = Register::named(class, number) else {
-            return Err(RegisterFault::NoSuchRegister);
-        };
+        let register = Register::named(class, number).ok_or(RegisterFault::NoSuchRegister)?;
         if !register.fits(value) {
             return Err(RegisterFault::BadValue);
         }
@@ -107,7 +104,7 @@ impl Registers {
             Register::Control(n) => self.put_control(n, value),
             Register::Segment => self.set_segment((value % 0x1_0000) as u16),
             Register::Offset => self.jump(value),
-            Register::StatusWord => self.set_status(Status::of(value)),
+            Register::StatusWord => self.set_status(Status::from(value)),
             Register::Pending => self.set_pending(value),
         }
     }

@@ -17,9 +17,6 @@ impl Registers {
     pub fn lists(&self, segment: u16) -> bool
         ensures { result ≡ listed self.now segment }
     {
-        holds(self.cr[4], segment)
-            || holds(self.cr[5], segment)
-            || holds(self.cr[6], segment)
-            || holds(self.cr[7], segment)
+        self.cr[4..8].iter().any(|pair| holds(*pair, segment))
     }
 }

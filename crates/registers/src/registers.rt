@@ -3,7 +3,7 @@ ghost use Rattle.std.specs.Prelude.{◌≡◌, ◌%◌, slice_index};
 
 use super::status::Status;
 
-#[derive(Clone, Copy, Drop)]
+#[derive(Clone, Copy, PartialEq, Eq, Debug, Drop)]
 pub struct Registers {
     // GR0 to GR15, SR0 to SR7 and CR0 to CR31
     pub(crate) gr: [u32; 16],

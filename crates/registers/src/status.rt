@@ -2,10 +2,8 @@
 ghost use Rattle.std.specs.Prelude.{◌≡◌};
 ghost use Rattle.registers.specs.Status.{status_word, status_of, clear_status};
 
-use isa::arithmetic::bit;
-
 // The bits of the status that have a name: X, C, K, D, P and E.
-#[derive(Clone, Copy, Drop)]
+#[derive(Clone, Copy, PartialEq, Eq, Debug, Drop)]
 pub struct Status {
     pub user: bool,
     pub code: bool,
@@ -24,25 +22,34 @@ impl Status {
         protect: false,
         interrupts: false,
     };
+}
 
-    pub fn word(&self) -> u32
-        ensures { result ≡ status_word self.now }
-    {
-        let high = bit(self.user) * 0x4000 + bit(self.code) * 0x2000 + bit(self.carry) * 0x0800;
-        high + bit(self.data) * 4 + bit(self.protect) * 2 + bit(self.interrupts)
+impl From<Status> for u32 {
+    ghost from_gives = { λ status word. word ≡ status_word status };
+
+    fn from(status: Status) -> u32 {
+        (u32::from(status.user) << 14)
+            + (u32::from(status.code) << 13)
+            + (u32::from(status.carry) << 11)
+            + (u32::from(status.data) << 2)
+            + (u32::from(status.protect) << 1)
+            + u32::from(status.interrupts)
     }
+}
 
-    // The status that a number names; its other bits count for nothing.
-    pub fn of(word: u32) -> Status
-        ensures { result ≡ status_of word }
-    {
+// The other bits of a number count for nothing.
+impl From<u32> for Status {
+    ghost from_gives = { λ word status. status ≡ status_of word };
+
+    fn from(word: u32) -> Status {
+        let bit = |place: u32| (word >> place) % 2 == 1;
         Status {
-            user: word / 0x4000 % 2 == 1,
-            code: word / 0x2000 % 2 == 1,
-            carry: word / 0x0800 % 2 == 1,
-            data: word / 4 % 2 == 1,
-            protect: word / 2 % 2 == 1,
-            interrupts: word % 2 == 1,
+            user: bit(14),
+            code: bit(13),
+            carry: bit(11),
+            data: bit(2),
+            protect: bit(1),
+            interrupts: bit(0),
         }
     }
 }

@@ -7,19 +7,19 @@ use super::status::Status;
 
 #[derive(Clone, Copy, PartialEq, Eq, Debug, Drop)]
 pub enum Trap {
-    Memory,
-    Interrupt,
-    CodeMiss,
-    CodeRights,
-    CodeProtection,
-    Illegal,
-    Privileged,
-    Overflow,
-    Break,
+    Memory = 1,
+    Interrupt = 2,
+    CodeMiss = 3,
+    CodeRights = 4,
+    CodeProtection = 5,
+    Illegal = 6,
+    Privileged = 7,
+    Overflow = 8,
+    Break = 15,
 }
 
 // A trap with what it tells the handler: the instruction word, and the segment and offset that failed.
-#[derive(Clone, Copy, Drop)]
+#[derive(Clone, Copy, PartialEq, Eq, Debug, Drop)]
 pub struct Cause {
     pub trap: Trap,
     pub segment: u16,
@@ -31,17 +31,7 @@ impl Trap {
     pub fn number(self) -> u32
         ensures { result ≡ trap_number self }
     {
-        match self {
-            Trap::Memory => 1,
-            Trap::Interrupt => 2,
-            Trap::CodeMiss => 3,
-            Trap::CodeRights => 4,
-            Trap::CodeProtection => 5,
-            Trap::Illegal => 6,
-            Trap::Privileged => 7,
-            Trap::Overflow => 8,
-            Trap::Break => 15,
-        }
+        self as u32
     }
 }
 
@@ -51,10 +41,10 @@ impl Registers {
         ensures { self.new ≡ trapped self.old cause }
     {
         let handler = self.cr[16].wrapping_add(cause.trap.number() * 32);
-        self.cr[17] = self.status.word() * 0x1_0000 + self.segment as u32;
+        self.cr[17] = u32::from(self.status) * 0x1_0000 + u32::from(self.segment);
         self.cr[18] = self.offset;
         self.cr[19] = cause.word;
-        self.cr[20] = cause.segment as u32;
+        self.cr[20] = u32::from(cause.segment);
         self.cr[21] = cause.offset;
         self.segment = 0;
         self.offset = handler / 4 * 4;

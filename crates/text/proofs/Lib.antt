@@ -1,3 +1,2 @@
-pub mod Decimal
-pub mod Laid
+pub mod Digits
 pub mod Rows

@@ -1,6 +1,8 @@
 -- The text of a report and of a notice, as lists of bytes.
-use Rattle.std.specs.Prelude.{ℕ, zero, suc, ◌+◌, ◌/◌, ◌%◌, ◌^◌, Bool, true, cond, List, [], ◌∷◌, ◌++◌, map, length, drop, codes, decimal, ◌==◌, slice_index}
+use Rattle.std.specs.Prelude.{ℕ, zero, suc, ◌+◌, ◌/◌, ◌%◌, ◌^◌, Bool, true, cond, List, [], ◌∷◌, ◌++◌, map, length, drop, codes, decimal, ◌==◌, slice_index, if◌then◌else◌, nat_lt, Result, Ok, Err}
 use Rattle.std.specs.Fmt.{digit_glyph}
+use Rattle.refusal.specs.declared.Refusal.{Refusal}
+use Rattle.refusal.specs.declared.Refusal.TheVariants.{SmallBuffer}
 
 abbrev pub newline : List ℕ
 newline = 10 ∷ []
@@ -42,3 +44,10 @@ notice_text number = codes "REFUSED " ++ (decimal number ++ newline)
 -- a buffer with a text at its start
 abbrev pub over : List ℕ → List ℕ → List ℕ
 over text buffer = text ++ drop (length text) buffer
+
+-- what writing a text answers, and what it leaves of the buffer, which has to have 256 bytes
+abbrev pub written_length : List ℕ → List ℕ → Result ℕ Refusal
+written_length text buffer = if nat_lt (length buffer) 256 then Err SmallBuffer else Ok (length text)
+
+abbrev pub written : List ℕ → List ℕ → List ℕ
+written text buffer = if nat_lt (length buffer) 256 then buffer else over text buffer

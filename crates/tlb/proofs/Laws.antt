@@ -1,5 +1,5 @@
 -- What looking up, putting in and leaving out do to translations, and to the slots that hold them.
-use Rattle.std.proofs.Common.{◌≡◌, ℕ, zero, suc, ◌<◌, ◌≤◌, Bool, true, false, cond, eqb, List, [], ◌∷◌, length, get_or, set, replicate, is_some, Some, None, Ok, Err, Option, Result, sym, refl, ap, ◌∙◌, subst, ⊎_elim, arith}
+use Rattle.std.proofs.Common.{◌≡◌, ℕ, zero, suc, ◌<◌, ◌≤◌, Bool, true, false, cond, eqb, List, [], ◌∷◌, length, get_or, set, replicate, is_some, Some, None, Ok, Err, Option, Result, sym, refl, ap, ◌∙◌, subst, ◌⊎◌, ⊎_elim, arith}
 use Rattle.std.proofs.lemmas.List.{set-set, set-get_or, get_or-set_same, get_or_default, length-set, length-replicate}
 use Rattle.std.proofs.lemmas.Bool.{eqb-true, eqb-false, eq-eqb, ne_eqb, both_ways, cases_Bool, cond-true, lt-ltb, le-ltb, true≢false}
 use Rattle.std.proofs.lemmas.Bool.Decides.{nat_tests}
@@ -246,6 +246,10 @@ usable_freed rs =
     (λ (bad : fitting (length rs) ≡ false). rw (bad, bad))
     (cases_Bool (fitting (length rs)))
 
+-- the slot that an insert finds: that of the page, or a free one where the page has none
+abbrev pub Fitting : List (Option Translation) → Translation → ℕ → Type 0
+Fitting rs t i = HoldsAt (usable rs) (key t) i ⊎ (NoneHolds (usable rs) (key t) × FreeAt (usable rs) i)
+
 -- a table over records finds, inserts and removes
 
 module _ (rs : List (Option Translation)) (d : Distinct (usable rs)) where
@@ -254,26 +258,26 @@ module _ (rs : List (Option Translation)) (d : Distinct (usable rs)) where
   found_nowhere segment page none =
       sym (lookup_missing (usable rs) (key_of segment page) (missing_from (usable rs) (key_of segment page) none))
 
-  pub found_here : (segment page i : ℕ) (t : Translation) (else : Option Translation) → HoldsAt (usable rs) (key_of segment page) i → get_or rs i else ≡ Some t → Some t.info ≡ found (translations_of (usable rs)) segment page
+  pub found_here : (segment page i : ℕ) (slot : Option Translation) → HoldsAt (usable rs) (key_of segment page) i → slot ≡ get_or rs i slot → info_in slot ≡ found (translations_of (usable rs)) segment page
   unfolding found
-  found_here segment page i t else h e =
+  found_here segment page i slot h e =
       let all = usable_all rs i h.0 in
       let here : i < length rs = omega (arith, ap length all, h.0) in
-      let same : get_or (usable rs) i None ≡ Some t = ap (λ xs. get_or xs i None) all ∙ get_or_default rs i None else here ∙ e in
+      let same : get_or (usable rs) i None ≡ slot = ap (λ xs. get_or xs i None) all ∙ get_or_default rs i None slot here ∙ sym e in
       sym (lookup_at (usable rs) (key_of segment page) i d h.1 ∙ ap info_in same)
 
   module _ (t : Translation) where
     -- the page has a slot already
     module _ (i : ℕ) (h : HoldsAt (usable rs) (key t) i) where
-      pub replaced_answer : Ok tt ≡ inserting (translations_of (usable rs)) (length (usable rs)) t
+      replaced_answer : Ok tt ≡ inserting (translations_of (usable rs)) (length (usable rs)) t
       unfolding inserting
       replaced_answer = rw (room_for_held (usable rs) (key t) i (length (usable rs)) d h.1)
 
-      pub replaced : translations_of (usable (set rs i (Some t))) ≡ inserted (translations_of (usable rs)) (length (usable rs)) t
+      replaced : translations_of (usable (set rs i (Some t))) ≡ inserted (translations_of (usable rs)) (length (usable rs)) t
       unfolding inserted
       replaced = rw (room_for_held (usable rs) (key t) i (length (usable rs)) d h.1, usable_set rs i (Some t)) (put_in_own_slot (usable rs) t i d h.1)
 
-      pub replaced_sound : Distinct (usable (set rs i (Some t)))
+      replaced_sound : Distinct (usable (set rs i (Some t)))
       replaced_sound = rw (usable_set rs i (Some t)) (distinct_same_key (usable rs) t i d h.1)
 
     module _ (none : NoneHolds (usable rs) (key t)) where
@@ -282,15 +286,15 @@ module _ (rs : List (Option Translation)) (d : Distinct (usable rs)) where
 
       -- the page is new, and a slot is free
       module _ (i : ℕ) (f : FreeAt (usable rs) i) where
-        pub added_answer : Ok tt ≡ inserting (translations_of (usable rs)) (length (usable rs)) t
+        added_answer : Ok tt ≡ inserting (translations_of (usable rs)) (length (usable rs)) t
         unfolding inserting
         added_answer = rw (room_while_free (usable rs) (key t) i lacks f)
 
-        pub added : translations_of (usable (set rs i (Some t))) ≡ inserted (translations_of (usable rs)) (length (usable rs)) t
+        added : translations_of (usable (set rs i (Some t))) ≡ inserted (translations_of (usable rs)) (length (usable rs)) t
         unfolding inserted
         added = rw (room_while_free (usable rs) (key t) i lacks f, usable_set rs i (Some t)) (put_in_free_slot (usable rs) t i f.0 f.1 lacks)
 
-        pub added_sound : Distinct (usable (set rs i (Some t)))
+        added_sound : Distinct (usable (set rs i (Some t)))
         added_sound = rw (usable_set rs i (Some t)) (distinct_new_key (usable rs) t i d lacks)
 
       -- the page is new, and no slot is free
@@ -302,6 +306,16 @@ module _ (rs : List (Option Translation)) (d : Distinct (usable rs)) where
         pub full_unchanged : translations_of (usable rs) ≡ inserted (translations_of (usable rs)) (length (usable rs)) t
         unfolding inserted
         full_unchanged = rw (no_room_when_full (usable rs) (key t) d lacks f)
+
+  module _ (t : Translation) (i : ℕ) (slot : Fitting rs t i) where
+    pub entered_answer : Ok tt ≡ inserting (translations_of (usable rs)) (length (usable rs)) t
+    entered_answer = ⊎_elim (λ h. replaced_answer t i h) (λ f. added_answer t f.0 i f.1) slot
+
+    pub entered : translations_of (usable (set rs i (Some t))) ≡ inserted (translations_of (usable rs)) (length (usable rs)) t
+    entered = ⊎_elim (λ h. replaced t i h) (λ f. added t f.0 i f.1) slot
+
+    pub entered_sound : Distinct (usable (set rs i (Some t)))
+    entered_sound = ⊎_elim (λ h. replaced_sound t i h) (λ f. added_sound t f.0 i f.1) slot
 
   pub removed : (segment page i : ℕ) → HoldsAt (usable rs) (key_of segment page) i → translations_of (usable (set rs i None)) ≡ without segment page (translations_of (usable rs))
   unfolding without

@@ -10,7 +10,7 @@ abbrev pub key_of : ℕ → ℕ → ℕ
 key_of segment page = segment * 2 ^ 32 + page
 
 abbrev pub key : Translation → ℕ
-key t = key_of t.segment t.page
+key t = key_of t.page.segment t.page.number
 
 abbrev pub lookup : List Translation → ℕ → Option Info
 lookup [] k = None

@@ -4,7 +4,7 @@ ghost use Rattle.tlb.specs.Word.{unnamed};
 
 mod fields;
 
-#[derive(Clone, Copy)]
+#[derive(Clone, Copy, PartialEq, Eq, Debug)]
 pub struct Info {
     word: u32,
     ghost named: { unnamed word ≡ 0 },

@@ -2,6 +2,7 @@
 #![tactic(auto)]
 
 pub mod info;
+pub mod page;
 pub mod page_type;
 pub mod size;
 pub mod slot_list;

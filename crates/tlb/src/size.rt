@@ -8,15 +8,12 @@ use refusal::Refusal;
 pub(crate) fn fit(records: u64) -> bool
     ensures { result ≡ fitting records }
 {
-    1 <= records && records <= MOST_SLOTS
+    (1..=MOST_SLOTS).contains(&records)
 }
 
+// The answer alone is like that of the other checks.
 pub fn check(records: u64) -> Result<(), Refusal>
     ensures { result ≡ sized records }
 {
-    if fit(records) {
-        Ok(())
-    } else {
-        Err(Refusal::BadSize)
-    }
+    fit(records).then_some(()).ok_or(Refusal::BadSize)
 }

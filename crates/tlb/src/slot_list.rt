@@ -5,6 +5,7 @@ ghost use Rattle.tlb.specs.Slots.{usable, freed, translations_of, Distinct, None
 ghost use Rattle.tlb.specs.Order.{usable_lawful};
 
 use super::info::Info;
+use super::page::Page;
 use super::size::fit;
 use super::table::{TableFault, Tlb};
 use super::translation::Translation;
@@ -14,9 +15,7 @@ fn free(records: &mut [Option<Translation>])
     ensures { records.new ≡ freed records.old }
 {
     if fit(records.len() as u64) {
-        for record in records.iter_mut() {
-            *record = None;
-        }
+        records.fill(None);
     }
 }
 
@@ -48,29 +47,19 @@ impl<'a> SlotList<'a> {
     }
 
     // The slot that has the page's translation.
-    fn place(&self, segment: u16, page: u32) -> Option<usize>
-        ensures { MatchOption result (NoneHolds (usable self.now.records.now) (key_of segment page)) (HoldsAt (usable self.now.records.now) (key_of segment page)) }
+    fn place(&self, page: Page) -> Option<usize>
+        ensures { MatchOption result (NoneHolds (usable self.now.records.now) (key_of page.segment page.number)) (HoldsAt (usable self.now.records.now) (key_of page.segment page.number)) }
     {
-        for (i, slot) in self.slots().iter().enumerate() {
-            if let Some(translation) = slot {
-                if translation.is_for(segment, page) {
-                    return Some(i);
-                }
-            }
-        }
-        None
+        self.slots()
+            .iter()
+            .position(|slot| slot.is_some_and(|t| t.page == page))
     }
 
     // A slot that is free.
     fn vacant(&self) -> Option<usize>
         ensures { MatchOption result (NoneFree (usable self.now.records.now)) (FreeAt (usable self.now.records.now)) }
     {
-        for (i, slot) in self.slots().iter().enumerate() {
-            if slot.is_none() {
-                return Some(i);
-            }
-        }
-        None
+        self.slots().iter().position(|slot| slot.is_none())
     }
 }
 
@@ -85,33 +74,23 @@ impl<'a> Tlb for SlotList<'a> {
 
     ghost lawful = { λ t _. usable_lawful t.records.now };
 
-    fn find(&mut self, segment: u16, page: u32) -> Option<Info> {
-        let Some(i) = self.place(segment, page) else {
-            return None;
-        };
-        let record = &self.records[i];
-        match record {
-            Some(translation) => Some(translation.info),
-            None => None,
-        }
+    fn find(&mut self, page: Page) -> Option<Info> {
+        let i = self.place(page)?;
+        self.records[i].map(|translation| translation.info)
     }
 
     fn insert(&mut self, translation: Translation) -> Result<(), TableFault> {
-        if let Some(i) = self.place(translation.segment, translation.page) {
-            self.records[i] = Some(translation);
-            return Ok(());
-        }
-        match self.vacant() {
-            Some(i) => {
-                self.records[i] = Some(translation);
-                Ok(())
-            }
-            None => Err(TableFault::Full),
-        }
+        // A match: what `or_else` answers is not known where its closure calls a method of `self`.
+        let i = match self.place(translation.page) {
+            Some(own) => own,
+            None => self.vacant().ok_or(TableFault::Full)?,
+        };
+        self.records[i] = Some(translation);
+        Ok(())
     }
 
-    fn remove(&mut self, segment: u16, page: u32) {
-        if let Some(i) = self.place(segment, page) {
+    fn remove(&mut self, page: Page) {
+        if let Some(i) = self.place(page) {
             self.records[i] = None;
         }
     }

@@ -5,6 +5,7 @@ ghost use Rattle.tlb.specs.Raised.{raised};
 ghost use Rattle.tlb.specs.Table.{found, inserting, inserted, without, Lawful};
 
 use super::info::Info;
+use super::page::Page;
 use super::translation::Translation;
 use refusal::{Layer, Refusal, Refused};
 
@@ -29,7 +30,8 @@ impl From<TableFault> for Refused {
 }
 
 pub trait Tlb {
-    // Whether its parts agree with one another: `clear` makes it so, whatever was there.
+    // Whether its parts agree with one another: `clear` makes it so, whatever was there. It is a premise of promises and no
+    // invariant, so that a table can be made over anything.
     ghost sound: { Self → Type 0 };
 
     // In rising order of segment and page, so that equal sets are equal lists.
@@ -42,8 +44,8 @@ pub trait Tlb {
 
     ghost lawful: { (t : Self) → sound t → Lawful (translations t) (slots t) };
 
-    fn find(&mut self, segment: u16, page: u32) -> Option<Info>
-        ensures answer { sound self.old → result ≡ found (translations self.old) segment page }
+    fn find(&mut self, page: Page) -> Option<Info>
+        ensures answer { sound self.old → result ≡ found (translations self.old) page.segment page.number }
         ensures translations { sound self.old → translations self.new ≡ translations self.old }
         ensures slots { slots self.new ≡ slots self.old }
         ensures sound { sound self.old → sound self.new }
@@ -56,8 +58,8 @@ pub trait Tlb {
         ensures sound { sound self.old → sound self.new }
         ensures roots { roots self.new ≡ roots self.old };
 
-    fn remove(&mut self, segment: u16, page: u32)
-        ensures translations { sound self.old → translations self.new ≡ without segment page (translations self.old) }
+    fn remove(&mut self, page: Page)
+        ensures translations { sound self.old → translations self.new ≡ without page.segment page.number (translations self.old) }
         ensures slots { slots self.new ≡ slots self.old }
         ensures sound { sound self.old → sound self.new }
         ensures roots { roots self.new ≡ roots self.old };

@@ -3,12 +3,14 @@ ghost use Rattle.std.specs.Prelude.{◌≡◌, length};
 ghost use Rattle.machine.specs.Machine.{view, Did, Went};
 ghost use Rattle.machine.specs.Calls.{place as place_of, look_answer, looked, give as give_of, map as map_of, put_byte};
 
+use crate::fault::MachineFault;
 use crate::machine::Machine;
 use decode_cache::cache::DecodeCache;
 use memory::memory::Memory;
 use memory::range::{check_range, read_range};
-use refusal::{Layer, Refusal, Refused};
+use refusal::Refused;
 use tlb::info::Info;
+use tlb::page::Page;
 use tlb::table::Tlb;
 use tlb::translation::Translation;
 
@@ -21,8 +23,8 @@ impl<'m, M: Memory, T: Tlb, C: DecodeCache> Machine<'m, M, T, C> {
     {
         let start = address as u64;
         check_range(self.memory, start, bytes.len() as u64)?;
-        for i in 0..bytes.len() {
-            self.put_byte(start + i as u64, bytes[i]);
+        for (i, byte) in bytes.iter().enumerate() {
+            self.put_byte(start + i as u64, *byte);
         }
         Ok(())
     }
@@ -31,6 +33,7 @@ impl<'m, M: Memory, T: Tlb, C: DecodeCache> Machine<'m, M, T, C> {
     fn put_byte(&mut self, address: u64, byte: u8)
         ensures { Went M.Memory T.Tlb C.DecodeCache (put_byte address byte) self.old self.new }
     {
+        // It cannot be refused: the range was tested.
         let _ = self.memory.write(address, 1, byte as u32);
         self.cache.forget(address / 4 * 4);
     }
@@ -56,21 +59,15 @@ impl<'m, M: Memory, T: Tlb, C: DecodeCache> Machine<'m, M, T, C> {
     pub fn map(&mut self, segment: u16, page: u32, info: u32) -> Result<(), Refused>
         ensures { Did M.Memory T.Tlb C.DecodeCache (map_of segment page info) self.old result self.new }
     {
-        let bad = Refused {
-            refusal: Refusal::BadTranslation,
-            layer: Layer::Machine,
-        };
         if segment == 0 || page > LAST_PAGE {
-            return Err(bad);
+            return Err(MachineFault::BadTranslation.into());
         }
-        let Some(info) = Info::parse(info) else {
-            return Err(bad);
-        };
-        self.tlb.insert(Translation {
+        let info = Info::parse(info).ok_or(MachineFault::BadTranslation)?;
+        let page = Page {
             segment,
-            page,
-            info,
-        })?;
+            number: page,
+        };
+        self.tlb.insert(Translation { page, info })?;
         Ok(())
     }
 }

@@ -12,6 +12,7 @@ use memory::memory::Memory;
 use registers::registers::Registers;
 use registers::trap::{Cause, Trap};
 use tlb::info::Info;
+use tlb::page::Page;
 use tlb::page_type::PageType;
 use tlb::table::Tlb;
 
@@ -43,10 +44,7 @@ fn failed_at(trap: Trap, segment: u16, offset: u32) -> Cause
 fn may_fetch(user: bool, info: Info) -> bool
     ensures { result ≡ may_fetch_it user info }
 {
-    let runs = match info.kind() {
-        PageType::ReadOnly | PageType::ReadWrite => false,
-        PageType::Execute | PageType::Gateway => true,
-    };
+    let runs = matches!(info.kind(), PageType::Execute | PageType::Gateway);
     runs && (!(user || info.pl2()) || info.pl1())
 }
 
@@ -63,9 +61,7 @@ fn through(registers: &Registers, found: Option<Info>) -> Result<Way, Cause>
 {
     let segment = registers.segment();
     let offset = registers.offset();
-    let Some(info) = found else {
-        return Err(failed_at(Trap::CodeMiss, segment, offset));
-    };
+    let info = found.ok_or(failed_at(Trap::CodeMiss, segment, offset))?;
     let user = registers.user();
     if !may_fetch(user, info) {
         return Err(failed_at(Trap::CodeRights, segment, offset));
@@ -102,7 +98,10 @@ impl<'m, M: Memory, T: Tlb, C: DecodeCache> Machine<'m, M, T, C> {
     {
         let segment = self.registers.segment();
         if segment != 0 && self.registers.status().code {
-            let found = self.tlb.find(segment, self.registers.offset() / 16_384);
+            let found = self.tlb.find(Page {
+                segment,
+                number: self.registers.offset() / 16_384,
+            });
             through(&self.registers, found)
         } else {
             straight(&self.registers)
@@ -117,12 +116,9 @@ impl<'m, M: Memory, T: Tlb, C: DecodeCache> Machine<'m, M, T, C> {
         if let Some(decoded) = self.cache.recall(way.address) {
             return Ok(decoded);
         }
-        let Ok(word) = self.memory.read(way.address, 4) else {
-            return Err(failed_at(Trap::Memory, way.segment, self.registers.offset()));
-        };
-        let Some(instruction) = decode(word) else {
-            return Err(failed(Trap::Illegal, word));
-        };
+        let unread = failed_at(Trap::Memory, way.segment, self.registers.offset());
+        let word = self.memory.read(way.address, 4).ok().ok_or(unread)?;
+        let instruction = decode(word).ok_or(failed(Trap::Illegal, word))?;
         let decoded = Decoded { word, instruction };
         self.cache.keep(way.address, decoded);
         Ok(decoded)

@@ -25,6 +25,7 @@ impl<'m, M: Memory, T: Tlb, C: DecodeCache> Machine<'m, M, T, C> {
         }
         let before = self.registers.user();
         self.registers.set_level(fetched.user);
+        // A match: a trap puts the level back too.
         match self.registers.finish(instruction) {
             Ok(()) => Ok(()),
             Err(trap) => {
@@ -42,8 +43,8 @@ impl<'m, M: Memory, T: Tlb, C: DecodeCache> Machine<'m, M, T, C> {
         self.perform(fetched)
     }
 
-    // An interrupt, an instruction or a trap; answers the trap's number, or 0.
-    pub(crate) fn turn(&mut self) -> u32
+    // An interrupt, an instruction or a trap; answers the trap, if it took one.
+    pub(crate) fn turn(&mut self) -> Option<Trap>
         ensures did { Did M.Memory T.Tlb C.DecodeCache turned self.old result self.new }
         ensures retained { Retained M.Memory T.Tlb C.DecodeCache Fetches self.old self.new.cache.now }
     {
@@ -54,13 +55,14 @@ impl<'m, M: Memory, T: Tlb, C: DecodeCache> Machine<'m, M, T, C> {
                 offset: line,
                 word: 0,
             });
-            return Trap::Interrupt.number();
+            return Some(Trap::Interrupt);
         }
+        // A match: a trap changes the registers too.
         match self.attempt() {
-            Ok(()) => 0,
+            Ok(()) => None,
             Err(cause) => {
                 self.registers.trap(cause);
-                cause.trap.number()
+                Some(cause.trap)
             }
         }
     }

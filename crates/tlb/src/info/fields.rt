@@ -1,12 +1,13 @@
 // What an info word says, field by field.
-ghost use Rattle.std.specs.Prelude.{◌≡◌};
+ghost use Rattle.std.specs.Prelude.{◌≡◌, ◌/◌, ◌%◌, ◌^◌, ◌<◌, ◌==◌};
 ghost use Rattle.tlb.specs.Info.{info_of, checked, kind, pl1, pl2, physical};
 
 use super::super::page_type::PageType;
 use super::Info;
 
 impl Info {
-    // None where an unnamed bit is set.
+    // None where an unnamed bit is set: no more can be wrong, so no TryFrom with an error that says as much. It is made only where
+    // the test held, so not in a closure.
     pub fn parse(word: u32) -> Option<Info>
         ensures { result ≡ info_of word }
     {
@@ -26,9 +27,10 @@ impl Info {
     pub fn checked(self) -> bool
         ensures { result ≡ checked self }
     {
-        (self.word >> 29) % 2 == 1
+        self.bit(29)
     }
 
+    // Two bits name a type; a From would have to take every number.
     pub fn kind(self) -> PageType
         ensures { result ≡ kind self }
     {
@@ -43,13 +45,21 @@ impl Info {
     pub fn pl1(self) -> bool
         ensures { result ≡ pl1 self }
     {
-        (self.word >> 26) % 2 == 1
+        self.bit(26)
     }
 
     pub fn pl2(self) -> bool
         ensures { result ≡ pl2 self }
     {
-        (self.word >> 25) % 2 == 1
+        self.bit(25)
+    }
+
+    // Whether the bit is set that is worth 2 to the power of `place`.
+    fn bit(self, place: u32) -> bool
+        requires { place < 32 }
+        ensures { result ≡ (self.word / 2 ^ place % 2 == 1) }
+    {
+        (self.word >> place) % 2 == 1
     }
 
     // The number of the physical page.

@@ -1,9 +1,6 @@
-use Rattle.std.proofs.Common.{◌-◌, length}
-use Rattle.image.proofs.Parsing.{Scanned}
+use Rattle.std.proofs.Common.{◌≡◌}
+use Rattle.image.specs.Parsed.{given, parsed, says, whole}
 use Rattle.image.proofs.whole.scan.Given as goal
 
-abbrev pub invariant-loop-item : goal.invariant-loop-item
-invariant-loop-item l = Scanned l.image l.index l.place
-
-abbrev pub decreases-loop-item : goal.decreases-loop-item
-decreases-loop-item l = length l.image - l.place
+abbrev pub invariant-loop-record : goal.invariant-loop-record
+invariant-loop-record l = says (parsed l.image) ≡ says (whole (given l.record-iterator))

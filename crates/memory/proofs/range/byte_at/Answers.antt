@@ -1,9 +1,6 @@
-use Rattle.std.proofs.Common.{Ok}
+use Rattle.std.proofs.Common.{rules}
 use Rattle.memory.proofs.Ranges.{byte_read}
 use Rattle.memory.proofs.range.byte_at.Goals as goal
 
-pub returns-in-Ok : goal.returns-in-Ok
-returns-in-Ok g c = byte_read _ c.args.address (Ok c.in-Ok.byte) c.in-Ok.ensures.value
-
-pub returns-in-Err : goal.returns-in-Err
-returns-in-Err g c = byte_read _ c.args.address _ c.in-Err.ensures.value
+pub returns : goal.returns
+returns g c = let e = byte_read (g.M.Memory.bytes c.args.memory.now) c.args.address c.read.result c.read.ensures.value in search rules

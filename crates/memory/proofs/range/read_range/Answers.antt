@@ -3,9 +3,9 @@ use Rattle.std.proofs.lemmas.List.{get_or-set_same, get_or-set_other}
 use Rattle.memory.proofs.Ranges.{read_past, read_nothing, read_within, read_all}
 use Rattle.memory.proofs.range.read_range.Goals as goal
 
-pub returns-then-not-within : goal.returns-then-not-within
-returns-then-not-within g c =
-    let past = c.if-not-within.ensures in
+pub returns-then-not-ends_within : goal.returns-then-not-ends_within
+returns-then-not-ends_within g c =
+    let past = c.if-not-ends_within.ensures in
     record { answer = read_past _ c.args.address c.args.buffer.now past; buffer = read_nothing _ c.args.address c.args.buffer.now past }
 
 pub loop-i-preserved : goal.loop-i-preserved
@@ -18,7 +18,7 @@ loop-i-preserved g c =
 
 pub returns : goal.returns
 returns g c =
-    let ends = c.if-not-within.ensures in
+    let ends = c.if-not-ends_within.ensures in
     record {
       answer = read_within _ c.args.address c.args.buffer.now ends;
       buffer = read_all _ c.args.address c.args.buffer.now ends c.loop-i.buffer c.loop-i.auto.buffer (λ k h. c.loop-i.invariant k (omega arith));

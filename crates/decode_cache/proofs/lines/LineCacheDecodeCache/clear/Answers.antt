@@ -1,5 +1,4 @@
-use Rattle.decode_cache.proofs.Table.{holds_nothing}
 use Rattle.decode_cache.proofs.lines.LineCacheDecodeCache.clear.Goals as goal
 
-pub returns : goal.returns
-returns c = record { held = holds_nothing; sound = tt }
+pub returns-clause-held : goal.returns-clause-held
+returns-clause-held c a = c.clear.ensures.held (record { 0 = a })

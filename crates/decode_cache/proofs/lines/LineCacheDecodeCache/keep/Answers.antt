@@ -1,13 +1,9 @@
-use Rattle.std.proofs.Common.{◌≡◌, length, arith}
-use Rattle.decode_cache.proofs.Table.{kept_fewer, kept_held, loses_one}
+use Rattle.std.proofs.Common.{ap}
+use Rattle.decode_cache.specs.declared.lines.Address.{Address}
 use Rattle.decode_cache.proofs.lines.LineCacheDecodeCache.keep.Goals as goal
 
-pub returns : goal.returns
-returns c =
-    let ls = c.args.self.now.lines in
-    let long : length ls ≡ 64 = omega arith in
-    simp (c.fill.ensures, c.line_of.ensures) (record {
-      loses = loses_one ls long c.args.address c.args.decoded;
-      retained = kept_held ls long c.args.address c.args.decoded;
-      held = kept_fewer ls long c.args.address c.args.decoded;
-    })
+pub returns-clause-loses : goal.returns-clause-loses
+returns-clause-loses c =
+    let one = c.put.ensures.loses in
+    let number = λ (a : Address). a.0 in
+    record { lost = one.lost.0; others = λ a ne kept. one.others (record { 0 = a }) (λ e. ne (ap number e)) (λ e. kept (ap number e)) }

@@ -1,9 +1,11 @@
-use Rattle.std.proofs.Common.{sym, refl}
+use Rattle.std.proofs.Common.{sym, refl, ap, ◌∙◌, ok_or}
+use Rattle.std.proofs.lemmas.Result.{err_from_is_err_and}
 use Rattle.machine.specs.Coherence.{Read, Coherent}
 use Rattle.machine.specs.Machine.{view, Sound}
 use Rattle.machine.proofs.Coherence.{coherent_kept}
-use Rattle.machine.proofs.Fetching.{code_read, code_unread, code_illegal}
+use Rattle.machine.proofs.Fetching.{read_some, read_none, code_read, code_unread, code_illegal}
 use Rattle.machine.proofs.Retaining.{retained_failed, retained_found}
+use Rattle.machine.proofs.Setting.{same_fault}
 use Rattle.machine.proofs.machine.Machine.code_at.Goals as goal
 
 pub returns-in-Some : goal.returns-in-Some
@@ -17,29 +19,40 @@ returns-in-Some g c =
       retained = retained_found _ _ _ c.args.way m _ c.in-Some.decoded finds (λ _. held);
     }
 
-pub returns-in_default-read : goal.returns-in_default-read
-returns-in_default-read g c =
+pub returns-in_err-word : goal.returns-in_err-word
+returns-in_err-word g c =
     let m = c.args.self.now in
-    let fails = code_unread c.args.way (view g.M.Memory g.T.Tlb g.C.DecodeCache m) _ _ _ (sym c.in_default-read.ensures.value) c.offset.ensures c.failed_at.ensures in
-    record {
+    let v = view g.M.Memory g.T.Tlb g.C.DecodeCache m in
+    let e = c.in_err-word.ensures in
+    let gone = read_none c.read.result (sym c.ok.ensures.value ∙ e.ok_part) in
+    let fails = code_unread c.args.way v gone.0 _ _ (sym c.read.ensures.value ∙ gone.1) c.offset.ensures c.failed_at-unread.ensures in
+    let cause = same_fault _ c.failed_at-unread.result (e.value ∙ ap (λ o. ok_or o c.failed_at-unread.result) e.ok_part) in
+    let p = err_from_is_err_and c.from_residual.result c.from_residual.ensures.1 in
+    rw (p.1, p.2, cause) (record {
       learned = record { answer = λ _. fails; state = λ _. refl; sound = λ s. s; same = refl };
       retained = retained_failed _ _ _ c.args.way m _ _ (λ _. fails);
-    }
+    })
 
-pub returns-in_default-decode : goal.returns-in_default-decode
-returns-in_default-decode g c =
+pub returns-in_err-instruction : goal.returns-in_err-instruction
+returns-in_err-instruction g c =
     let m = c.args.self.now in
-    let fails = code_illegal c.args.way (view g.M.Memory g.T.Tlb g.C.DecodeCache m) _ _ (sym c.in-Ok.ensures.value) (sym c.in_default-decode.ensures) c.failed.ensures in
-    record {
+    let v = view g.M.Memory g.T.Tlb g.C.DecodeCache m in
+    let e = c.in_err-instruction.ensures in
+    let read = sym c.read.ensures.value ∙ read_some c.read.result c.in_ok-word.word (sym c.ok.ensures.value ∙ c.in_ok-word.ensures.ok_part) in
+    let fails = code_illegal c.args.way v _ _ read (sym c.decode.ensures ∙ e.ok_part) c.failed.ensures in
+    let cause = same_fault _ c.failed.result (e.value ∙ ap (λ o. ok_or o c.failed.result) e.ok_part) in
+    let p = err_from_is_err_and c.from_residual-in_err-instruction.result c.from_residual-in_err-instruction.ensures.1 in
+    rw (p.1, p.2, cause) (record {
       learned = record { answer = λ _. fails; state = λ _. refl; sound = λ s. s; same = refl };
       retained = retained_failed _ _ _ c.args.way m _ _ (λ _. fails);
-    }
+    })
 
 pub returns : goal.returns
 returns g c =
     let m = c.args.self.now in
-    let read : Read (g.M.Memory.bytes m.memory.now) c.args.way.address (record { word = c.in-Ok.word; instruction = c.in-Some-decode.instruction }) =
-    record { word = sym c.in-Ok.ensures.value; instruction = sym c.in-Some-decode.ensures } in
+    let word = sym c.read.ensures.value ∙ read_some c.read.result c.in_ok-word.word (sym c.ok.ensures.value ∙ c.in_ok-word.ensures.ok_part) in
+    let read : Read (g.M.Memory.bytes m.memory.now) c.args.way.address (record { word = c.in_ok-word.word; instruction = c.in_ok-instruction.instruction }) =
+    record { word = word; instruction = sym c.decode.ensures ∙ c.in_ok-instruction.ensures.ok_part } in
     let finds = code_read c.args.way (view g.M.Memory g.T.Tlb g.C.DecodeCache m) _ read in
     record {
       retained = retained_found _ _ _ c.args.way m _ _ (λ _. finds) (λ r s. c.keep.ensures.retained r s.lines);

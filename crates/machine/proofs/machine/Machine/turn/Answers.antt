@@ -7,7 +7,7 @@ pub returns-in-Some : goal.returns-in-Some
 returns-in-Some g c =
     let line = c.in-Some.ensures.value in
     record {
-      did = turn_interrupted _ _ _ _ _ _ _ _ _ c.number.ensures line c.take_line.ensures.after refl c.trap.ensures;
+      did = turn_interrupted _ _ _ _ _ _ _ _ _ refl line c.take_line.ensures.after refl c.trap.ensures;
       retained = retained_interrupted _ _ _ _ _ _ line;
     }
 
@@ -24,6 +24,6 @@ returns-in-Err g c =
     let kept = c.take_line.ensures.after in
     let attempted = c.in-Err.ensures in
     record {
-      did = turn_trapped _ _ _ _ _ _ none kept _ _ _ attempted.tried c.number-in-Err.ensures c.trap-in-Err.ensures;
+      did = turn_trapped _ _ _ _ _ _ none kept _ _ _ attempted.tried refl c.trap-in-Err.ensures;
       retained = retained_stepped _ _ _ _ _ _ none kept attempted.retained;
     }

@@ -7,7 +7,7 @@ returns-in-Some c =
     let rs = c.args.self.now.records.now in
     let i = c.in-Some.i in
     record {
-      translations = λ d. removed rs d c.args.segment c.args.page i c.in-Some.ensures;
+      translations = λ d. removed rs d c.args.page.segment c.args.page.number i c.in-Some.ensures;
       slots = slots_stay rs i None;
       sound = λ d. removed_sound rs d i;
       roots = refl;
@@ -16,7 +16,7 @@ returns-in-Some c =
 pub returns-in_default : goal.returns-in_default
 returns-in_default c =
     record {
-      translations = λ d. removed_nothing c.args.self.now.records.now d c.args.segment c.args.page c.in_default.ensures;
+      translations = λ d. removed_nothing c.args.self.now.records.now d c.args.page.segment c.args.page.number c.in_default.ensures;
       slots = refl;
       sound = λ d. d;
       roots = refl;

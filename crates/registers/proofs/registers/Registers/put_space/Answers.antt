@@ -1,6 +1,0 @@
-use Rattle.std.proofs.Common.{refl}
-use Rattle.registers.proofs.Equal.{same_registers}
-use Rattle.registers.proofs.registers.Registers.put_space.Goals as goal
-
-pub returns : goal.returns
-returns c = same_registers _ _ refl refl refl refl refl refl refl refl refl
