@@ -13,7 +13,7 @@ use refusal::{Layer, Refusal, Refused};
 pub use whole::scan;
 
 // What a record asks of the machine; the bytes of a place record are lent from the image.
-#[derive(Clone, Copy, PartialEq, Eq, Debug)]
+#[derive(Clone, Copy, PartialEq, Eq, Debug, Drop)]
 pub enum Record<'a> {
     Place { address: u32, bytes: &'a [u8] },
     Map { segment: u16, page: u32, info: u32 },
@@ -23,21 +23,21 @@ pub enum Record<'a> {
 }
 
 // The number of a record, and the place where it begins or would begin.
-#[derive(Clone, Copy, PartialEq, Eq, Debug)]
+#[derive(Clone, Copy, PartialEq, Eq, Debug, Drop)]
 pub struct Spot {
     pub record: u32,
     pub place: u32,
 }
 
 // A refusal, with the number and the place of the record that it is of.
-#[derive(Clone, Copy, PartialEq, Eq, Debug)]
+#[derive(Clone, Copy, PartialEq, Eq, Debug, Drop)]
 pub struct LoadRefused {
     pub refused: Refused,
     pub spot: Spot,
 }
 
 // What is wrong with an image.
-#[derive(Clone, Copy, PartialEq, Eq, Debug)]
+#[derive(Clone, Copy, PartialEq, Eq, Debug, Drop)]
 pub enum ImageFault {
     NoImage,
     Cut,

@@ -12,6 +12,7 @@ pub(crate) fn bits(word: u32, first: u32, last: u32) -> u32
     (word >> (31 - last)) % (1 << (last + 1 - first))
 }
 
+// One bit, counted from the left; `tlb` and `registers` count theirs from the right.
 pub(crate) fn bit(word: u32, n: u32) -> bool
     requires { n ≤ 31 }
     ensures { result ≡ bit_of n word }
@@ -47,7 +48,7 @@ pub(crate) fn register(word: u32, first: u32) -> u8
     bits(word, first, first + 3) as u8
 }
 
-// Two bits name a condition; a From would have to take every number.
+// Two bits name a condition; a From would claim that every number names one.
 pub(crate) fn condition(number: u32) -> Condition
     ensures { result ≡ condition_of number }
 {

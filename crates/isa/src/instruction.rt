@@ -16,6 +16,7 @@ pub enum Operand {
     Registers { a: u8, b: u8 },
 }
 
+// One variant for each instruction, also where the fields are the same: each has an arm and a clause of its own.
 // The fields have their names in the instruction set: `r`, `a` and `b` are registers, `v` and `o` numbers; `l`, `o`, `n` and
 // `c` of an operand instruction are its options L, O, N and C, and `x` is its operand.
 #[derive(Clone, Copy, PartialEq, Eq, Debug, Drop)]

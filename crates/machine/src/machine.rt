@@ -12,6 +12,8 @@ use memory::memory::Memory;
 use registers::registers::Registers;
 use tlb::table::Tlb;
 
+// That a machine is sound is a premise of promises and no invariant: beside `&mut` fields one is covered in part only. Its parts
+// are three parameters, since a struct of them would be one more `&mut` with a name of its own.
 #[derive(Drop)]
 pub struct Machine<'m, M: Memory, T: Tlb, C: DecodeCache> {
     registers: Registers,

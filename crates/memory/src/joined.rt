@@ -14,6 +14,7 @@ fn join(lower: u64, upper: u64) -> bool
     lower != 0 && upper != 0 && within(MOST_PAGES, lower, upper)
 }
 
+// The answer alone is like that of the other checks.
 pub fn check<L: Memory, U: Memory>(lower: &L, upper: &U) -> Result<(), Refusal>
     ensures { result ≡ joinable (length (L.Memory.marks lower.now)) (length (U.Memory.marks upper.now)) }
 {
@@ -68,6 +69,7 @@ impl<L: Memory, U: Memory> Memory for Joined<L, U> {
         })
     }
 
+    // Like `write` but for the call: a type for the part that an address falls in would be longer.
     fn read(&self, address: u64, width: u32) -> Result<u32, MemoryFault> {
         let seam = self.seam().ok_or(MemoryFault::Outside)?;
         let split = seam * PAGE_BYTES;

@@ -83,7 +83,8 @@ fn drive_bytes<T: Tlb + Drop, C: DecodeCache + Drop>(
     drive(&mut ram, &mut tlb, &mut cache, job, report)
 }
 
-// Builds a page from an image over the caller's memory; answers the length of the report, or why there is none.
+// Builds a page from an image over the caller's memory; answers the length of the report, or why there is none. The mode is a
+// plain number, so that a wrong one is refused here.
 pub fn build(
     mode: u32,
     steps: u32,
@@ -104,6 +105,7 @@ pub fn build(
     let mut records = [None; SLOTS];
     let slots = SlotList::new(&mut records);
     let job = Job { steps, image };
+    // A match: the arms have parts of two types, and `dyn` would put a call through a table into every step.
     match mode {
         Mode::Full => drive_bytes(slots, EmptyCache, job, memory, report),
         Mode::Fast => drive_bytes(QuickList::new(slots), LineCache::new(), job, memory, report),

@@ -8,8 +8,8 @@ use refusal::Refusal;
 // it used before in lines.
 #[derive(Clone, Copy, PartialEq, Eq, Debug, Drop)]
 pub enum Mode {
-    Full,
-    Fast,
+    Full = 0,
+    Fast = 1,
 }
 
 impl TryFrom<u32> for Mode {

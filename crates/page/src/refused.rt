@@ -5,7 +5,7 @@ ghost use Rattle.page.specs.Refused.{refusal_number, by_itself, by_record};
 use image::LoadRefused;
 use refusal::{Refusal, Refused};
 
-// A refusal, with the place of the record that it is of, 0 where it is of none.
+// A refusal, with the place of the record that it is of; 0 where it is of none, as the answer has it.
 #[derive(Clone, Copy, PartialEq, Eq, Debug, Drop)]
 pub struct BuildRefused {
     pub refusal: Refusal,

@@ -25,6 +25,7 @@ pub fn report<M: Memory, T: Tlb, C: DecodeCache>(
         halted: registers.halted(),
         general: registers.generals(),
     };
+    // The text's crate knows no machine, so the layer is told here.
     report.write(buffer).map_err(|refusal| Refused {
         refusal,
         layer: Layer::Machine,

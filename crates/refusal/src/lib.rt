@@ -42,6 +42,7 @@ pub struct Refused {
 }
 
 impl Refusal {
+    // By name, so that a reader sees which number it is.
     pub fn number(self) -> u32
         ensures { result ≡ number_of self }
     {

@@ -34,7 +34,7 @@ impl Registers {
     pub fn general(&self, n: u8) -> u32
         ensures { result ≡ general_of self.now n }
     {
-        self.gr[(n % 16) as usize]
+        self.gr[usize::from(n % 16)]
     }
 
     pub fn put_general(&mut self, n: u8, value: u32)
@@ -42,7 +42,7 @@ impl Registers {
     {
         let n = n % 16;
         if n != 0 {
-            self.gr[n as usize] = value;
+            self.gr[usize::from(n)] = value;
         }
     }
 
@@ -56,7 +56,7 @@ impl Registers {
     pub fn control(&self, n: u8) -> u32
         ensures { result ≡ control_of self.now n }
     {
-        self.cr[(n % 32) as usize]
+        self.cr[usize::from(n % 32)]
     }
 
     pub(crate) fn put_control(&mut self, n: u8, value: u32)
@@ -64,13 +64,13 @@ impl Registers {
     {
         let n = n % 32;
         let fitted = cr_fitted(n, value);
-        self.cr[n as usize] = fitted;
+        self.cr[usize::from(n)] = fitted;
     }
 
     pub(crate) fn put_space(&mut self, n: u8, value: u32)
         ensures { self.new ≡ put_space self.old n value }
     {
-        self.sr[(n % 8) as usize] = (value % 0x1_0000) as u16;
+        self.sr[usize::from(n % 8)] = (value % 0x1_0000) as u16;
     }
 
     // Goes on to another offset, at a multiple of four.

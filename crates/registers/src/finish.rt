@@ -18,7 +18,7 @@ pub fn privileged(instruction: &Instruction) -> bool
 }
 
 impl Registers {
-    // Does the instruction's work, or tells why it traps and changes nothing.
+    // Does the instruction's work, or tells why it traps and changes nothing: one arm for each instruction.
     pub fn finish(&mut self, instruction: Instruction) -> Result<(), Trap>
         ensures after { self.new ≡ ends self.old (finished self.old instruction) }
         ensures value { result ≡ says (finished self.old instruction) }

@@ -5,7 +5,8 @@ ghost use Rattle.registers.specs.Interrupts.{open_line, by_line};
 use super::registers::Registers;
 
 impl Registers {
-    // The lowest line that is pending and open, where interrupts are on; it is then no longer pending, so no closure makes it.
+    // The lowest line that is pending and open, where interrupts are on; it is then no longer pending, so it is
+    // made in an `if` and in no closure.
     pub fn take_line(&mut self) -> Option<u32>
         ensures value { result ≡ open_line self.old }
         ensures after { self.new ≡ by_line self.old (open_line self.old) }

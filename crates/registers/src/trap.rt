@@ -28,6 +28,7 @@ pub struct Cause {
 }
 
 impl Trap {
+    // By name, so that a reader sees which number it is.
     pub fn number(self) -> u32
         ensures { result ≡ trap_number self }
     {

@@ -18,7 +18,7 @@ pub const LEAST: usize = 256;
 type Text = ArrayString<234>;
 
 // How many steps were made, whether a halt ended them, and what the general registers hold.
-#[derive(Clone, Copy)]
+#[derive(Clone, Copy, PartialEq, Eq, Debug)]
 pub struct Report<'a> {
     pub steps: u32,
     pub halted: bool,

@@ -80,7 +80,7 @@ impl<'a> Tlb for SlotList<'a> {
     }
 
     fn insert(&mut self, translation: Translation) -> Result<(), TableFault> {
-        // A match: what `or_else` answers is not known where its closure calls a method of `self`.
+        // A match: what `vacant` answers is not inferred of a closure for `or_else`, which would need clauses of its own.
         let i = match self.place(translation.page) {
             Some(own) => own,
             None => self.vacant().ok_or(TableFault::Full)?,

@@ -44,6 +44,7 @@ pub trait Tlb {
 
     ghost lawful: { (t : Self) → sound t → Lawful (translations t) (slots t) };
 
+    // Definitions take segment and number, since a table's order is over one number made of both.
     fn find(&mut self, page: Page) -> Option<Info>
         ensures answer { sound self.old → result ≡ found (translations self.old) page.segment page.number }
         ensures translations { sound self.old → translations self.new ≡ translations self.old }

@@ -117,6 +117,7 @@ impl<'m, M: Memory, T: Tlb, C: DecodeCache> Machine<'m, M, T, C> {
             return Ok(decoded);
         }
         let unread = failed_at(Trap::Memory, way.segment, self.registers.offset());
+        // Which fault it was is not shown: a `map_err` with an argument unused would say the same.
         let word = self.memory.read(way.address, 4).ok().ok_or(unread)?;
         let instruction = decode(word).ok_or(failed(Trap::Illegal, word))?;
         let decoded = Decoded { word, instruction };

@@ -18,6 +18,7 @@ impl Info {
         }
     }
 
+    // By name, so that a reader sees which number it is.
     pub fn word(self) -> u32
         ensures { result ≡ self.word }
     {
@@ -30,7 +31,7 @@ impl Info {
         self.bit(29)
     }
 
-    // Two bits name a type; a From would have to take every number.
+    // Two bits name a type; a From would claim that every number names one.
     pub fn kind(self) -> PageType
         ensures { result ≡ kind self }
     {
