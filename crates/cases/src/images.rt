@@ -9,6 +9,7 @@ use memory::memory::Memory;
 use memory::ram::Ram;
 use memory::rom::Rom;
 use page::build::vcpu32_build;
+use page::mode::Mode;
 use refusal::Layer;
 use std::process::Abort;
 use std::test::Fail;
@@ -65,11 +66,17 @@ fn refuses(rt: &(impl Abort + AllocGlobal), image: &[u8], told: Told) -> Result<
 
 #[test]
 fn the_example_prints_its_page_in_both_modes(rt: HostRuntime) -> Result<(), Fail> {
-    for mode in 0..2 {
+    for mode in [Mode::Full, Mode::Fast] {
         let mut memory = vec![in rt.alloc(); 0u8; 32_768]?;
         let mut report = [7u8; 256];
         assert_eq!(rt;
-            vcpu32_build(mode, 1_000, &EXAMPLE, memory.as_mut_slice(), &mut report),
+            vcpu32_build(
+                mode as u32,
+                1_000,
+                &EXAMPLE,
+                memory.as_mut_slice(),
+                &mut report
+            ),
             29
         );
         assert_eq!(rt;

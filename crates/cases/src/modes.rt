@@ -1,6 +1,7 @@
 // Images that both modes build to one page.
 use super::imaging::Writing;
 use page::build::vcpu32_build;
+use page::mode::Mode;
 use std::process::Abort;
 use std::test::Fail;
 
@@ -17,9 +18,21 @@ fn builds(rt: &(impl Abort + AllocGlobal), image: &[u8], text: &[u8]) -> Result<
     let mut fast_memory = vec![in rt.alloc(); 0u8; 32_768]?;
     let mut full = [7u8; 256];
     let mut fast = [7u8; 256];
-    let length = vcpu32_build(0, 1_000, image, full_memory.as_mut_slice(), &mut full);
+    let length = vcpu32_build(
+        Mode::Full as u32,
+        1_000,
+        image,
+        full_memory.as_mut_slice(),
+        &mut full,
+    );
     assert_eq!(rt;
-        vcpu32_build(1, 1_000, image, fast_memory.as_mut_slice(), &mut fast),
+        vcpu32_build(
+            Mode::Fast as u32,
+            1_000,
+            image,
+            fast_memory.as_mut_slice(),
+            &mut fast
+        ),
         length
     );
     assert_eq!(rt; &full, &fast);

@@ -12,7 +12,8 @@ pub use records::Records;
 use refusal::{Layer, Refusal, Refused};
 pub use whole::scan;
 
-// What a record asks of the machine; the bytes of a place record are lent from the image.
+// What a record asks of the machine, in plain numbers, as images and calls have them; the bytes of a place record are lent from
+// the image.
 #[derive(Clone, Copy, PartialEq, Eq, Debug, Drop)]
 pub enum Record<'a> {
     Place { address: u32, bytes: &'a [u8] },

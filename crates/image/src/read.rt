@@ -22,7 +22,7 @@ pub fn read(bytes: &[u8]) -> Result<(Record<'_>, &[u8]), ImageFault>
     Ok((record(content)?, rest))
 }
 
-// The kind says how long a record is, and what its body holds.
+// The kind says how long a record is, and what its body holds. The kinds stand here alone, with the numbers of the format.
 fn record(content: &[u8]) -> Result<Record<'_>, ImageFault>
     ensures { result_map_both asked (λ fault. fault) result ≡ of_content content.now }
 {

@@ -6,6 +6,7 @@ use super::fields::{A, B, R, bit, bits, condition, register, signed_bits};
 use super::instruction::{Instruction, Operand};
 
 // The instruction of a word, or none where its number is not listed, a field is forbidden, or a bit without a name is set.
+// The numbers of instructions and of forms stand in this file alone, as docs/machine.md lists them.
 pub fn decode(word: u32) -> Option<Instruction>
     ensures { result ≡ decoded word }
 {

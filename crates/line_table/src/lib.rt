@@ -67,10 +67,8 @@ impl<K: Key, V: Copy, const N: usize> Lines<K, V, N> {
     pub fn find(&self, key: K) -> Option<V>
         ensures { result ≡ held K.eq K.fold N self.now key }
     {
-        match self.lines.get(Self::line_of(key)?) {
-            Some(Some(line)) if line.key == key => Some(line.value),
-            _ => None,
-        }
+        let line = *self.lines.get(Self::line_of(key)?)?;
+        line.filter(|held| held.key == key).map(|held| held.value)
     }
 
     // What is put is held, where there are lines, and at most one other key is lost for it.

@@ -84,7 +84,7 @@ fn drive_bytes<T: Tlb + Drop, C: DecodeCache + Drop>(
 }
 
 // Builds a page from an image over the caller's memory; answers the length of the report, or why there is none. The mode is a
-// plain number, so that a wrong one is refused here.
+// plain number, so that a wrong one is refused here, and the five parameters stay apart, as C has them.
 pub fn build(
     mode: u32,
     steps: u32,

@@ -13,7 +13,7 @@ pub struct BuildRefused {
 }
 
 impl BuildRefused {
-    // The number by which a program outside knows it; no length of a report is so large.
+    // The number by which a program outside knows it, by name; no length of a report is so large.
     pub fn number(self) -> u64
         ensures { result ≡ refusal_number self }
     {

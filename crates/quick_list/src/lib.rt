@@ -55,6 +55,7 @@ impl<T: Tlb> Tlb for QuickList<T> {
         ensures sound { Agreeing T.Tlb self.old → Agreeing T.Tlb self.new }
         ensures roots { T.Tlb.roots self.new.table ≡ T.Tlb.roots self.old.table }
     {
+        // No `or_else`: what follows changes the lines, and has a `?`.
         if let Some(info) = self.lines.find(PageKey(page)) {
             return Some(info);
         }

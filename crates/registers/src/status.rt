@@ -42,6 +42,7 @@ impl From<u32> for Status {
     ghost from_gives = { λ word status. status ≡ status_of word };
 
     fn from(word: u32) -> Status {
+        // Counted from the right; `isa` counts from the left.
         let bit = |place: u32| (word >> place) % 2 == 1;
         Status {
             user: bit(14),

@@ -18,7 +18,8 @@ pub enum Trap {
     Break = 15,
 }
 
-// A trap with what it tells the handler: the instruction word, and the segment and offset that failed.
+// A trap with what it tells the handler: the instruction word, and the segment and offset that failed; 0, as the trap writes it,
+// for what it does not tell.
 #[derive(Clone, Copy, PartialEq, Eq, Debug, Drop)]
 pub struct Cause {
     pub trap: Trap,

@@ -35,7 +35,7 @@ impl<'a> SlotList<'a> {
         SlotList { records }
     }
 
-    // The records that are slots: all, or none where there are too many.
+    // The records that are slots: all, or none where there are too many. As short as memory's `usable`, over other elements.
     fn slots(&self) -> &[Option<Translation>]
         ensures { result.now ≡ usable self.now.records.now }
     {

@@ -21,6 +21,7 @@ impl<'m, M: Memory, T: Tlb, C: DecodeCache> Machine<'m, M, T, C> {
     pub fn place(&mut self, address: u32, bytes: &[u8]) -> Result<(), Refused>
         ensures { Did M.Memory T.Tlb C.DecodeCache (place_of address bytes.now) self.old result self.new }
     {
+        // Numbers are widened by `as` here: the proofs know them so, and not as an answer of `from`.
         let start = address as u64;
         check_range(self.memory, start, bytes.len() as u64)?;
         for (i, byte) in bytes.iter().enumerate() {
@@ -47,7 +48,7 @@ impl<'m, M: Memory, T: Tlb, C: DecodeCache> Machine<'m, M, T, C> {
         Ok(())
     }
 
-    // Sets a register.
+    // Sets a register; class and number are plain, so that wrong ones are refused.
     pub fn give(&mut self, class: u32, number: u32, value: u32) -> Result<(), Refused>
         ensures { Did M.Memory T.Tlb C.DecodeCache (give_of class number value) self.old result self.new }
     {
@@ -55,7 +56,7 @@ impl<'m, M: Memory, T: Tlb, C: DecodeCache> Machine<'m, M, T, C> {
         Ok(())
     }
 
-    // Enters a translation, in place of the one that the page has.
+    // Enters a translation, in place of the one that the page has; its page is in plain numbers, so that wrong ones are refused.
     pub fn map(&mut self, segment: u16, page: u32, info: u32) -> Result<(), Refused>
         ensures { Did M.Memory T.Tlb C.DecodeCache (map_of segment page info) self.old result self.new }
     {

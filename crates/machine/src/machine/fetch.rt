@@ -28,7 +28,7 @@ pub(crate) fn failed(trap: Trap, word: u32) -> Cause
     }
 }
 
-// An access failed at a segment and an offset, before any word was fetched.
+// An access failed at a segment and an offset, before any word was fetched. Beside `failed`: each has its own half of a cause.
 fn failed_at(trap: Trap, segment: u16, offset: u32) -> Cause
     ensures { result ≡ failed_there trap segment offset }
 {
@@ -113,6 +113,7 @@ impl<'m, M: Memory, T: Tlb, C: DecodeCache> Machine<'m, M, T, C> {
         ensures retained { Retained M.Memory T.Tlb C.DecodeCache (StandsAt way) self.old self.new.cache.now }
         ensures learned { Learned M.Memory T.Tlb C.DecodeCache (code_of way) self.old result self.new }
     {
+        // No `or_else`: what follows changes the cache, and has a `?`.
         if let Some(decoded) = self.cache.recall(way.address) {
             return Ok(decoded);
         }

@@ -55,7 +55,7 @@ impl Info {
         self.bit(25)
     }
 
-    // Whether the bit is set that is worth 2 to the power of `place`.
+    // Whether the bit is set that is worth 2 to the power of `place`; `isa` counts from the left.
     fn bit(self, place: u32) -> bool
         requires { place < 32 }
         ensures { result ≡ (self.word / 2 ^ place % 2 == 1) }
