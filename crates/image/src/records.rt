@@ -49,6 +49,7 @@ impl<'a> Records<'a> {
     }
 
     // The record that some bytes begin with, or none at the end. `rest` comes back with a record alone; a fault is at `spot`.
+    #[inline(always)]
     #[tactic(auto, using(crate::proofs::Reading::read_all_fault, crate::proofs::Reading::read_all_over))]
     fn advance(&mut self, bytes: &'a [u8]) -> Result<Option<(Spot, Record<'a>)>, Refused>
         requires none { self.old.rest ≡ None }
@@ -59,10 +60,9 @@ impl<'a> Records<'a> {
     {
         let spot = self.spot;
         let (record, rest) = read(bytes)?;
-        self.spot = Spot {
-            record: spot.record + 1,
-            place: spot.place + (bytes.len() - rest.len()) as u32,
-        };
+        // Field by field, so that the two numbers need not be packed into one.
+        self.spot.place += (bytes.len() - rest.len()) as u32;
+        self.spot.record += 1;
         match record {
             Record::End => if rest.is_empty() {
                 Ok(None)
@@ -88,6 +88,8 @@ impl<'a> Iterator for Records<'a> {
 
     ghost remaining = { item_count given };
 
+    // Inlined, with what it calls, so that a walk keeps its spot in registers: called, it takes three times as long.
+    #[inline(always)]
     fn next(&mut self) -> Option<Self::Item> {
         let bytes = self.rest.take()?;
         self.advance(bytes)

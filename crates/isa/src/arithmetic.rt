@@ -50,6 +50,13 @@ pub fn sub(x: u32, y: u32, borrow: bool) -> Sum
     }
 }
 
+// The same by its whole name.
+pub fn subtract(x: u32, y: u32, borrow: bool) -> Sum
+    ensures { result ≡ difference_of x y borrow }
+{
+    sub(x, y, borrow)
+}
+
 pub fn invert(on: bool, x: u32) -> u32
     ensures { result ≡ inverted_if on x }
 {

@@ -22,6 +22,19 @@ impl Status {
         protect: false,
         interrupts: false,
     };
+
+    // Both conversions by name.
+    pub fn word(&self) -> u32
+        ensures { result ≡ status_word self.now }
+    {
+        u32::from(*self)
+    }
+
+    pub fn of(word: u32) -> Status
+        ensures { result ≡ status_of word }
+    {
+        Status::from(word)
+    }
 }
 
 impl From<Status> for u32 {

@@ -1,2 +1,3 @@
-pub mod Digits
+pub mod Decimal
+pub mod Laid
 pub mod Rows

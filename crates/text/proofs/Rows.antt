@@ -1,44 +1,56 @@
--- The rows of the registers, one behind another.
-use Rattle.std.proofs.Common.{◌≡◌, ℕ, zero, suc, ◌+◌, ◌*◌, ◌<◌, ◌≤◌, Bool, true, false, cond, eqb, List, [], ◌++◌, length, drop, get_or, sym, ap, ◌∙◌, append_assoc, arith, length-append}
-use Rattle.std.specs.List.{enumerate_from}
-use Rattle.std.specs.Slice.Iter.{iter_rest}
-use Rattle.std.specs.Iterator.Adapters.{skip_source, skip_count, skip_steps, enumerate_source, enumerate_count, enumerate_steps}
-use Rattle.std.proofs.iter.Yields.{fronts}
-use Rattle.std.proofs.lemmas.Iterator.{YieldsList, YieldsList-from_slice}
-use Rattle.std.proofs.lemmas.Iterator.Adapters.{YieldsList-from_skip}
-use Rattle.std.proofs.lemmas.Iterator.Consumers.{YieldsList-from_enumerate}
-use Rattle.std.proofs.lemmas.List.{length-drop, get_or_default}
-use Rattle.std.proofs.lemmas.Grind.{get_or_after_one}
-use Rattle.std.proofs.lemmas.List.FromFn.{length-enumerate_from, get_or-enumerate_from}
-use Rattle.text.specs.Report.{row_text, row_unless_zero, rows_to}
+-- What holds of the buffer while the rows of the registers are written.
+use Rattle.std.proofs.Common.{◌≡◌, ℕ, zero, suc, ◌+◌, ◌-◌, ◌*◌, ◌≤◌, cond, List, [], ◌++◌, length, get_or, sym, ap, ◌∙◌, append-nil, add-zero, add_assoc, arith, length-append, eq-eqb, ne_eqb}
+use Rattle.text.specs.Report.{row_text, row_unless_zero, rows_to, over}
+use Rattle.text.specs.Lay.{laid}
+use Rattle.text.proofs.Laid.{laid_laid, laid_over, laid_nothing}
 
--- each register with its number, but for the first
-abbrev pub numbered : List ℕ → List (ℕ × ℕ)
-numbered general = drop 1 (enumerate_from 0 general)
+-- the rows of the registers below one stand in the buffer, from the place behind the head to that behind them
+pub record Listed (head : ℕ) (general entry buffer : List ℕ) (number at : ℕ) : Type 0 where
+  pub text : buffer ≡ laid head (rows_to (number - 1) general) entry
+  pub place : at ≡ head + length (rows_to (number - 1) general)
+  pub room : at ≤ head + 14 * (number - 1)
 
-pub gives_numbered : {s : _} (general : List ℕ) → iter_rest (enumerate_source (skip_source s)) ≡ general → enumerate_count (skip_source s) ≡ 0 → skip_count s ≡ 1 → YieldsList (skip_steps (enumerate_steps fronts)) (λ p. (p.0, p.1.now)) s (numbered general)
-gives_numbered general e₁ e₂ e₃ = YieldsList-from_skip 1 (YieldsList-from_enumerate (YieldsList-from_slice general e₁) e₂) e₃
+-- a register's row, or nothing, behind those of the registers below it
+rows_more : (general row : List ℕ) (n : ℕ) → 1 ≤ n → row_unless_zero n (get_or general n 0) ≡ row → rows_to (n - 1) general ++ row ≡ rows_to (n + 1 - 1) general
+rows_more general row zero some is = absurd (omega arith)
+rows_more general row (suc n) some is =
+    let e : suc n ≡ suc n + 1 - 1 = omega arith in
+    let f : suc n - 1 ≡ n = omega arith in
+    ap (λ m. rows_to m general ++ row) f ∙ ap (λ r. rows_to n general ++ r) (sym is) ∙ ap (λ m. rows_to m general) e
 
-pub fifteen : (general : List ℕ) → length general ≡ 16 → length (numbered general) ≡ 15
-fifteen general all = omega (arith, length-drop 1 (enumerate_from 0 general), length-enumerate_from 0 general)
+no_row : (value n : ℕ) → value ≡ 0 → row_unless_zero n value ≡ []
+no_row value n is = ap (λ b. cond b [] (row_text n value)) (eq-eqb value 0 is)
 
--- the row of the register that comes next stands behind those before it
-pub rows_more : (general start before row after : List ℕ) (n m : ℕ) (p : ℕ × ℕ) → (n < length (numbered general)) × (p ≡ get_or (numbered general) n p) → before ≡ start ++ rows_to n general → row ≡ row_unless_zero p.0 p.1 → after ≡ before ++ row → m ≡ n + 1 → after ≡ start ++ rows_to m general
-rows_more general start before row after n m p here e is a next =
-    let inside : 1 + n < length general = omega (arith, here.0, length-drop 1 (enumerate_from 0 general), length-enumerate_from 0 general) in
-    let at : p ≡ (0 + (1 + n), get_or general (1 + n) p.1) = here.1 ∙ get_or_after_one (enumerate_from 0 general) n p ∙ get_or-enumerate_from 0 general (1 + n) p inside in
-    let number : p.0 ≡ suc n = ap (λ (q : ℕ × ℕ). q.0) at ∙ omega arith in
-    let value : p.1 ≡ get_or general (suc n) 0 = ap (λ (q : ℕ × ℕ). q.1) at ∙ get_or_default general (1 + n) p.1 0 inside ∙ ap (λ k. get_or general k 0) (omega arith) in
-    let one : m ≡ suc n = omega arith in
-    let rows : rows_to m general ≡ rows_to n general ++ row_unless_zero p.0 p.1 = rw (one, number, value) in
-    a ∙ ap (λ bs. bs ++ row) e ∙ append_assoc start (rows_to n general) row ∙ ap (λ r. start ++ (rows_to n general ++ r)) is ∙ ap (λ rs. start ++ rs) (sym rows)
+one_row : (value n : ℕ) → (value ≡ 0 → ⊥) → row_unless_zero n value ≡ row_text n value
+one_row value n isnt = ap (λ b. cond b [] (row_text n value)) (ne_eqb value 0 isnt)
 
-short_unless : (b : Bool) (n value : ℕ) → length (cond b [] (row_text n value)) ≤ 14
-short_unless true n value = omega arith
-short_unless false n value = omega arith
+pub listed_first : (head : ℕ) (general entry : List ℕ) → Listed head general entry entry 1 head
+listed_first head general entry = record { text = sym (laid_nothing head entry); place = sym (add-zero head); room = omega arith }
 
-pub rows_short : (n : ℕ) (general : List ℕ) → length (rows_to n general) ≤ 14 * n
-rows_short zero general = omega arith
-rows_short (suc n) general =
-    let value = get_or general (suc n) 0 in
-    omega (arith, rows_short n general, length-append (rows_to n general) (row_unless_zero (suc n) value), short_unless (eqb value 0) (suc n) value)
+pub listed_none : (head : ℕ) (general entry buffer after : List ℕ) (n at next : ℕ) → 1 ≤ n → get_or general n 0 ≡ 0 → after ≡ buffer → next ≡ at → Listed head general entry buffer n at → Listed head general entry after (n + 1) next
+listed_none head general entry buffer after n at next some is same still l =
+    let more = sym (append-nil (rows_to (n - 1) general)) ∙ rows_more general [] n some (no_row _ n is) in
+    record {
+      text = same ∙ l.text ∙ ap (λ rows. laid head rows entry) more;
+      place = still ∙ l.place ∙ ap (λ rows. head + length rows) more;
+      room = omega (arith, l.room);
+    }
+
+pub listed_row : (head : ℕ) (general entry buffer after row : List ℕ) (n at next : ℕ) → 1 ≤ n → head ≤ length entry → (get_or general n 0 ≡ 0 → ⊥) → row ≡ row_text n (get_or general n 0) → after ≡ laid at row buffer → next ≡ at + length row → Listed head general entry buffer n at → Listed head general entry after (n + 1) next
+listed_row head general entry buffer after row n at next some inside isnt is laid-is next-is l =
+    let rows = rows_to (n - 1) general in
+    let more : rows ++ row ≡ rows_to (n + 1 - 1) general = rows_more general row n some (one_row _ n isnt ∙ sym is) in
+    let long : length row ≡ 14 = ap length is in
+    record {
+      text = laid-is ∙ ap (laid at row) l.text ∙ ap (λ m. laid m row (laid head rows entry)) l.place ∙ laid_laid head rows row entry inside ∙ ap (λ text. laid head text entry) more;
+      place = next-is ∙ ap (λ m. m + length row) l.place ∙ add_assoc head (length rows) (length row) ∙ ap (λ m. head + m) (sym (length-append rows row)) ∙ ap (λ text. head + length text) more;
+      room = omega (arith, l.room, long, next-is);
+    }
+
+-- with all rows behind the head the whole text stands at the buffer's start
+pub listed_all : (start general before entry buffer : List ℕ) (head n at : ℕ) → n ≡ 16 → head ≡ length start → entry ≡ over start before → Listed head general entry buffer n at → (at ≡ length (start ++ rows_to 15 general)) × (buffer ≡ over (start ++ rows_to 15 general) before)
+listed_all start general before entry buffer head n at end place stands l =
+    let all : rows_to (n - 1) general ≡ rows_to 15 general = ap (λ m. rows_to (m - 1) general) end in (
+      l.place ∙ ap (λ m. m + length (rows_to (n - 1) general)) place ∙ sym (length-append start (rows_to (n - 1) general)) ∙ ap (λ rows. length (start ++ rows)) all,
+      l.text ∙ ap (laid head (rows_to (n - 1) general)) stands ∙ laid_over head start (rows_to (n - 1) general) before place ∙ ap (λ rows. over (start ++ rows) before) all,
+    )

@@ -1,21 +1,18 @@
 // The text of a report and of a notice, written into a buffer of the caller.
 #![tactic(auto)]
 
-ghost use Rattle.std.specs.Prelude.{◌≡◌, ◌<◌, IfOk};
-ghost use Rattle.text.specs.Report.{head_text, report_text, notice_text, written_length, written};
+ghost use Rattle.std.specs.Prelude.{◌≡◌, ◌<◌, ◌≤◌, length, IfOk};
+ghost use Rattle.text.specs.Report.{head_text, report_text, notice_text, over, written_length, written};
 
+mod lay;
 mod row;
 
-use arrayvec::ArrayString;
-use itoa::Buffer;
+use lay::{put, put_decimal};
 use refusal::Refusal;
 use row::register_row;
 
 // A buffer below this length is refused.
 pub const LEAST: usize = 256;
-
-// The first line and fifteen rows are the longest text. Its parts are pushed: no contract says that a `write!` succeeds.
-type Text = ArrayString<234>;
 
 // How many steps were made, whether a halt ended them, and what the general registers hold.
 #[derive(Clone, Copy, PartialEq, Eq, Debug)]
@@ -32,32 +29,47 @@ impl Report<'_> {
         ensures buffer { buffer.new ≡ written (report_text self.now.steps self.now.halted self.now.general.now) buffer.old }
         ensures short { IfOk result (λ n. n < 256) }
     {
-        write_over(&self.text(), buffer)
+        write_report(self.steps, self.halted, self.general, buffer)
     }
+}
 
-    // The first line, and the rows of the registers but for register 0.
-    fn text(&self) -> Text
-        ensures { result.bytes ≡ report_text self.now.steps self.now.halted self.now.general.now }
-    {
-        let mut text = Text::new();
-        text.push_str(&self.head());
-        let general = self.general;
-        for (number, value) in general.iter().enumerate().skip(1) {
-            text.push_str(&register_row(number as u32, *value));
+// The same, for whoever has no `Report`. The text is put into the caller's buffer piece by piece: a text made aside and copied
+// would be copied by a function of C's library, which a program in C need not have.
+pub fn write_report(
+    steps: u32,
+    halted: bool,
+    general: &[u32; 16],
+    buffer: &mut [u8],
+) -> Result<u64, Refusal>
+    ensures answer { result ≡ written_length (report_text steps halted general.now) buffer.old }
+    ensures buffer { buffer.new ≡ written (report_text steps halted general.now) buffer.old }
+    ensures short { IfOk result (λ n. n < 256) }
+{
+    if buffer.len() < LEAST {
+        return Err(Refusal::SmallBuffer);
+    }
+    let mut at = put_head(buffer, steps, halted);
+    for number in 1..16 {
+        if general[number] != 0 {
+            at = put(buffer, at, &register_row(number as u8, general[number]));
         }
-        text
     }
+    Ok(at as u64)
+}
 
-    // The first line.
-    #[tactic(auto, unfolding(crate::specs::Report::head_text))]
-    fn head(&self) -> ArrayString<24>
-        ensures { result.bytes ≡ head_text self.now.steps self.now.halted }
-    {
-        let mut line = ArrayString::new();
-        line.push_str("STEPS ");
-        line.push_str(Buffer::new().format(self.steps));
-        line.push_str(if self.halted { " HALTED\n" } else { " SPENT\n" });
-        line
+// The first line of a report, at the buffer's start; answers the place behind it.
+fn put_head(buffer: &mut [u8], steps: u32, halted: bool) -> usize
+    requires { 256 ≤ length buffer.old }
+    ensures place { result ≡ length (head_text steps halted) }
+    ensures short { result ≤ 24 }
+    ensures after { buffer.new ≡ over (head_text steps halted) buffer.old }
+{
+    let named = put(buffer, 0, b"STEPS ");
+    let counted = put_decimal(buffer, named, steps as u64);
+    if halted {
+        put(buffer, counted, b" HALTED\n")
+    } else {
+        put(buffer, counted, b" SPENT\n")
     }
 }
 
@@ -67,30 +79,10 @@ pub fn notice(number: u64, buffer: &mut [u8]) -> Result<u64, Refusal>
     ensures buffer { buffer.new ≡ written (notice_text number) buffer.old }
     ensures short { IfOk result (λ n. n < 256) }
 {
-    write_over(&refusal_line(number), buffer)
-}
-
-// That line alone.
-#[tactic(auto, unfolding(crate::specs::Report::notice_text))]
-fn refusal_line(number: u64) -> Text
-    ensures { result.bytes ≡ notice_text number }
-{
-    let mut line = Text::new();
-    line.push_str("REFUSED ");
-    line.push_str(Buffer::new().format(number));
-    line.push_str("\n");
-    line
-}
-
-// Writes a text over the start of a buffer, and answers its length: a plain number, so its bound is a clause and no type.
-fn write_over(text: &Text, buffer: &mut [u8]) -> Result<u64, Refusal>
-    ensures answer { result ≡ written_length text.now.bytes buffer.old }
-    ensures buffer { buffer.new ≡ written text.now.bytes buffer.old }
-    ensures short { IfOk result (λ n. n < 256) }
-{
     if buffer.len() < LEAST {
         return Err(Refusal::SmallBuffer);
     }
-    buffer[..text.len()].copy_from_slice(text.as_bytes());
-    Ok(text.len() as u64)
+    let named = put(buffer, 0, b"REFUSED ");
+    let counted = put_decimal(buffer, named, number);
+    Ok(put(buffer, counted, b"\n") as u64)
 }

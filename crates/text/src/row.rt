@@ -1,45 +1,40 @@
 // One register's row of a report.
-ghost use Rattle.std.specs.Prelude.{◌≡◌, ◌<◌, true};
+ghost use Rattle.std.specs.Prelude.{◌≡◌, ◌/◌, ◌%◌, ◌^◌, ◌<◌, true};
 ghost use Rattle.std.specs.Fmt.{digit_glyph};
-ghost use Rattle.text.specs.Report.{hexadecimal, row_unless_zero};
+ghost use Rattle.text.specs.Report.{row_text};
 
-use arrayvec::ArrayString;
-
-// The number of a register and its value, or nothing where that is zero.
-pub(crate) fn register_row(number: u32, value: u32) -> ArrayString<14>
+// The number of a register in two digits, and its value in eight hexadecimal ones.
+pub(crate) fn register_row(number: u8, value: u32) -> [u8; 14]
     requires { number < 100 }
-    ensures { result.bytes ≡ row_unless_zero number value }
+    ensures { result ≡ row_text number value }
 {
-    let mut row = ArrayString::new();
-    if value == 0 {
-        return row;
-    }
-    row.push_str("GR");
-    row.push(digit(number / 10));
-    row.push(digit(number % 10));
-    row.push(' ');
-    row.push_str(&hexadecimal(value));
-    row.push('\n');
-    row
+    [
+        b'G',
+        b'R',
+        b'0' + number / 10,
+        b'0' + number % 10,
+        b' ',
+        hex_digit(value, 28),
+        hex_digit(value, 24),
+        hex_digit(value, 20),
+        hex_digit(value, 16),
+        hex_digit(value, 12),
+        hex_digit(value, 8),
+        hex_digit(value, 4),
+        hex_digit(value, 0),
+        b'\n',
+    ]
 }
 
-// A number in eight hexadecimal digits.
-#[tactic(auto, using(crate::proofs::Digits::one_more))]
-fn hexadecimal(value: u32) -> ArrayString<8>
-    ensures { result.bytes ≡ hexadecimal value }
+// The hexadecimal digit that begins so many bits above the lowest.
+fn hex_digit(value: u32, above: u32) -> u8
+    requires { above < 32 }
+    ensures { result ≡ digit_glyph true (value / 2 ^ above % 16) }
 {
-    let mut digits = ArrayString::new();
-    for above in [28u32, 24, 20, 16, 12, 8, 4, 0] {
-        digits.push(digit((value >> above) % 16));
+    let digit = (value >> above) % 16;
+    if digit < 10 {
+        b'0' + digit as u8
+    } else {
+        b'A' + (digit - 10) as u8
     }
-    digits
-}
-
-// A digit of up to hexadecimal, in capitals.
-fn digit(value: u32) -> char
-    requires { value < 16 }
-    ensures glyph { result ≡ digit_glyph true value }
-    ensures ascii { result < 128 }
-{
-    char::from_digit(value, 16).unwrap().to_ascii_uppercase()
 }
